@@ -1,0 +1,292 @@
+-- An accepted file holds a well-formed guard, and is no longer than the limits allow: question by question, along the
+-- file. Assumes nothing.
+use mathlib.Core.Path.{_≡_, refl, ap, sym, subst, _∙_}
+use mathlib.Core.List.{List, [], _∷_, map, _++_}
+use Prim.Native.Nat.{ℕ, zero, suc, _+_, _*_, _≤_, _<_}
+use native.Mathlib.Omega.{arith}
+use lib.ListN.{length, getD, length-append, List·getD-append}
+use lib.Dec.{leb, ltb, eqb}
+use borrow.Author.Tests.{ltb-true, leb-true, eqb-true, not-true, ltb-false}
+use mathlib.Core.Bool.{_&&_, false, not, true, false≢true}
+use lib.Seq.{getD-append-seam}
+use mathlib.Core.Option.{none, some}
+use Rattle.laws.specs.All.{All, All.more, All.none}
+use Rattle.laws.specs.Lists.{all, last}
+use Rattle.laws.proofs.Bools.{and-left, and-right, by-test}
+use Rattle.laws.proofs.Lists.{all-mem, map-cong, map-from-length}
+use Rattle.guard.specs.File.{count, ended, file, kind, literal, literalOf, name, parts, rowOf, rows, termAndVariant, twoTerms, types, variant, variantTerm}
+use Rattle.guard.specs.Guard.{Guard, Literal, Literal.equal, Literal.is, Literal.isnt, Literal.unequal, Row, Row.built, Row.constant, Row.field, Row.variable, noRow, rowAt, typeAt, typeOf}
+use Rattle.guard.specs.Limits.{Limits, Supported, base, fieldLimit, totalVariantLimit, variantLimit}
+use Rattle.guard.specs.Message.{Message}
+use Rattle.guard.specs.Number.{Parsed.accepted, _>>_, ask, return, times, unfoldSigned, unsigned, width32}
+use Rattle.guard.specs.Terms.{termCount}
+use Rattle.guard.specs.Types.{Defaults, Types, Variant, allDefaults, defaultRounds, defaults, fieldsOf, firstDefault, infiniteFields, isNumber, isSome, nextDefault, variantsOf}
+use Rattle.guard.specs.WellFormed.{LiteralFits, RowFits, WellFormed}
+use Rattle.guard.proofs.Reading.{Ends, Reads, ends-bind, fold-unfold, reads-asked, reads-bind, reads-return, reads-times, reads-unsigned, reads-weaken}
+
+module _ {A : Type 0} where
+  abbrev And : (A → Type 0) → ℕ → A → ℕ → Type 0
+  And P most a u = P a × (u ≤ most)
+
+-- ---- counts, names and kinds take one byte
+
+reads-count : (most : ℕ) → most < 128 → Reads (count most) (And (λ n. n ≤ most) 1)
+reads-count most small =
+    reads-bind unsigned _ (λ n u. (n ≤ width32 .most) × (u ≤ 5) × (n < 128 → u ≤ 1)) (And (λ n. n ≤ most) 1) reads-unsigned
+    (λ n u h. reads-asked 4 (leb n most) (return n) (λ i w. (i ≤ most) × (u + w ≤ 1))
+    (λ e. let l : n ≤ most = leb-true n most e in reads-return n (λ i w. (i ≤ most) × (u + w ≤ 1)) (l, omega (arith, h .2 (omega arith)))))
+
+reads-name : (many : ℕ) → many ≤ 128 → Reads (name many) (And (λ n. n < many) 1)
+reads-name many small =
+    reads-bind unsigned _ (λ n u. (n ≤ width32 .most) × (u ≤ 5) × (n < 128 → u ≤ 1)) (And (λ n. n < many) 1) reads-unsigned
+    (λ n u h. reads-asked 5 (ltb n many) (return n) (λ i w. (i < many) × (u + w ≤ 1))
+    (λ e. let l : n < many = ltb-true n many e in reads-return n (λ i w. (i < many) × (u + w ≤ 1)) (l, omega (arith, h .2 (omega arith)))))
+
+reads-kind : Reads kind (And (λ n. n < 4) 1)
+reads-kind =
+    reads-bind unsigned _ (λ n u. (n ≤ width32 .most) × (u ≤ 5) × (n < 128 → u ≤ 1)) (And (λ n. n < 4) 1) reads-unsigned
+    (λ n u h. reads-asked 6 (ltb n 4) (return n) (λ i w. (i < 4) × (u + w ≤ 1))
+    (λ e. let l : n < 4 = ltb-true n 4 e in reads-return n (λ i w. (i < 4) × (u + w ≤ 1)) (l, omega (arith, h .2 (omega arith)))))
+
+-- ---- types
+
+abbrev VariantFits : ℕ → Variant → Type 0
+VariantFits many fs = (length fs ≤ fieldLimit) × All (λ f. f < many) fs
+
+abbrev TypeFits : ℕ → List Variant → Type 0
+TypeFits many vs = (length vs ≤ variantLimit) × All (VariantFits many) vs
+
+reads-variant : (many : ℕ) → many ≤ 128 → Reads (variant many) (And (VariantFits many) 4)
+reads-variant many small =
+    reads-bind (count fieldLimit) _ (And (λ n. n ≤ fieldLimit) 1) (And (VariantFits many) 4) (reads-count fieldLimit (omega arith))
+    (λ f u h. reads-weaken (times f (name many)) (λ xs w. (length xs ≡ f) × All (λ i. i < many) xs × (w ≤ f * 1)) (λ xs w. VariantFits many xs × (u + w ≤ 4))
+    (reads-times f 1 (name many) (λ i. i < many) (reads-name many small)) (λ xs w p. ((omega (arith, p .0, h .0), p .1), omega (arith, h .0, h .1, p .2))))
+
+-- each type takes a byte, and each variant at most four
+reads-types : (left many total : ℕ) → many ≤ 128 → total ≤ totalVariantLimit
+    → Reads (types left many total) (λ ts u. (length ts ≡ left) × All (TypeFits many) ts × (u + 4 * total ≤ left + 4 * totalVariantLimit))
+reads-types zero many total small fit =
+    reads-return [] (λ ts u. (length ts ≡ 0) × All (TypeFits many) ts × (u + 4 * total ≤ 0 + 4 * totalVariantLimit)) (refl, none, omega arith)
+reads-types (suc left) many total small fit =
+    reads-bind unsigned _ (λ n u. (n ≤ width32 .most) × (u ≤ 5) × (n < 128 → u ≤ 1)) (Good (λ z. z)) reads-unsigned
+    (λ v u h. reads-asked 4 (leb v variantLimit && leb (total + v) totalVariantLimit) _ (Good (λ z. u + z)) (λ e.
+    let l : v ≤ variantLimit = leb-true v variantLimit (and-left (leb v variantLimit) (leb (total + v) totalVariantLimit) e) in
+    let m : total + v ≤ totalVariantLimit = leb-true (total + v) totalVariantLimit (and-right (leb v variantLimit) (leb (total + v) totalVariantLimit) e) in
+    let one : u ≤ 1 = h .2 (omega arith) in
+    reads-bind (times v (variant many)) _ (λ vs w. (length vs ≡ v) × All (VariantFits many) vs × (w ≤ v * 4)) (Good (λ z. u + z)) (reads-times v 4 (variant many) (VariantFits many) (reads-variant many small))
+    (λ vs w hv. reads-bind (types left many (total + v)) _ (λ ts x. (length ts ≡ left) × All (TypeFits many) ts × (x + 4 * (total + v) ≤ left + 4 * totalVariantLimit)) (Good (λ z. u + (w + z)))
+    (reads-types left many (total + v) small m)
+    (λ ts x ht. reads-return (vs ∷ ts) (Good (λ z. u + (w + (x + z))))
+    (ap suc (ht .0), more (omega (arith, hv .0), hv .1) (ht .1), omega (arith, hv .2, ht .2))))))
+  where
+    Good : (ℕ → ℕ) → Types → ℕ → Type 0
+    Good bytes ts z = (length ts ≡ suc left) × All (TypeFits many) ts × (bytes z + 4 * total ≤ suc left + 4 * totalVariantLimit)
+
+-- ---- term rows
+
+module _ (ts : Types) (rs : List Row) (few : length rs ≤ 24) (names : length ts ≤ 6) (variants : (t : ℕ) → length (variantsOf ts t) ≤ variantLimit) (fields : (t v : ℕ) → length (fieldsOf ts t v) ≤ fieldLimit) where
+  reads-parts : (fs : Variant) → Reads (parts ts rs fs) (λ ps u. All (λ p. p < length rs) ps × (map (typeAt ts rs) ps ≡ fs) × (u ≤ length fs))
+  reads-parts [] = reads-return [] (λ ps u. All (λ p. p < length rs) ps × (map (typeAt ts rs) ps ≡ []) × (u ≤ 0)) (none, refl, omega arith)
+  reads-parts (f ∷ fs) =
+      reads-bind (name (length rs)) _ (And (λ p. p < length rs) 1) (Good (λ z. z)) (reads-name (length rs) (omega arith))
+      (λ p u hp. reads-asked 7 (eqb (typeAt ts rs p) f) _ (Good (λ z. u + z)) (λ e.
+      reads-bind (parts ts rs fs) _ (λ ps w. All (λ p. p < length rs) ps × (map (typeAt ts rs) ps ≡ fs) × (w ≤ length fs)) (Good (λ z. u + z)) (reads-parts fs)
+      (λ ps w h. reads-return (p ∷ ps) (Good (λ z. u + (w + z)))
+      (more (hp .0) (h .0), (let a : typeAt ts rs p ≡ f = eqb-true _ _ e in let b : map (typeAt ts rs) ps ≡ fs = h .1 in cc), omega (arith, hp .1, h .2)))))
+    where
+      Good : (ℕ → ℕ) → List ℕ → ℕ → Type 0
+      Good bytes ps z = All (λ p. p < length rs) ps × (map (typeAt ts rs) ps ≡ f ∷ fs) × (bytes z ≤ suc (length fs))
+
+  reads-term : Reads (variantTerm ts rs) (And (λ a. (a < length rs) × (isNumber ts (typeAt ts rs a) ≡ false)) 1)
+  reads-term =
+      reads-bind (name (length rs)) _ (And (λ p. p < length rs) 1) (And (λ a. (a < length rs) × (isNumber ts (typeAt ts rs a) ≡ false)) 1) (reads-name (length rs) (omega arith))
+      (λ a u h. reads-asked 7 (not (isNumber ts (typeAt ts rs a))) _ (λ a z. ((a < length rs) × (isNumber ts (typeAt ts rs a) ≡ false)) × (u + z ≤ 1)) (λ e.
+      reads-return a (λ a z. ((a < length rs) × (isNumber ts (typeAt ts rs a) ≡ false)) × (u + z ≤ 1)) ((h .0, not-true _ e), omega (arith, h .1))))
+
+  -- a constant takes the most: its type and five bytes of value
+  reads-row : (k : ℕ) → Reads (rowOf ts rs k) (And (RowFits ts rs (length rs)) 6)
+  reads-row zero =
+      reads-bind (name (length ts)) _ (And (λ t. t < length ts) 1) (And (RowFits ts rs (length rs)) 6) (reads-name (length ts) (omega arith))
+      (λ t u h. reads-return (variable t) (λ r z. RowFits ts rs (length rs) r × (u + z ≤ 6)) (h .0, omega (arith, h .1)))
+  reads-row (suc zero) =
+      reads-bind (name (length ts)) _ (And (λ t. t < length ts) 1) (And (RowFits ts rs (length rs)) 6) (reads-name (length ts) (omega arith))
+      (λ t u h. reads-asked 7 (isNumber ts t) _ (λ r z. RowFits ts rs (length rs) r × (u + z ≤ 6)) (λ e.
+      reads-bind unsigned _ (λ n w. (n ≤ width32 .most) × (w ≤ 5) × (n < 128 → w ≤ 1)) (λ r z. RowFits ts rs (length rs) r × (u + z ≤ 6)) reads-unsigned
+      (λ n w hn. reads-return (constant t (unfoldSigned n)) (λ r z. RowFits ts rs (length rs) r × (u + (w + z) ≤ 6))
+      ((h .0, e, subst (λ (x : ℕ). x ≤ width32 .most) (sym (fold-unfold n)) (hn .0)), omega (arith, h .1, hn .1)))))
+  reads-row (suc (suc zero)) =
+      reads-bind (name (length ts)) _ (And (λ t. t < length ts) 1) (And (RowFits ts rs (length rs)) 6) (reads-name (length ts) (omega arith))
+      (λ t u h. reads-asked 7 (not (isNumber ts t)) _ (λ r z. RowFits ts rs (length rs) r × (u + z ≤ 6)) (λ e.
+      reads-bind (name (length (variantsOf ts t))) _ (And (λ v. v < length (variantsOf ts t)) 1) (λ r z. RowFits ts rs (length rs) r × (u + z ≤ 6)) (reads-name (length (variantsOf ts t)) (omega (arith, variants t)))
+      (λ v w hv. reads-bind (parts ts rs (fieldsOf ts t v)) _ (λ ps x. All (λ p. p < length rs) ps × (map (typeAt ts rs) ps ≡ fieldsOf ts t v) × (x ≤ length (fieldsOf ts t v))) (λ r z. RowFits ts rs (length rs) r × (u + (w + z) ≤ 6))
+      (reads-parts (fieldsOf ts t v))
+      (λ ps x hp. reads-return (built t v ps) (λ r z. RowFits ts rs (length rs) r × (u + (w + (x + z)) ≤ 6)) ((h .0, hv .0, hp .0, hp .1), omega (arith, h .1, hv .1, hp .2, fields t v))))))
+  reads-row (suc (suc (suc k))) =
+      reads-bind (variantTerm ts rs) _ (And (λ a. (a < length rs) × (isNumber ts (typeAt ts rs a) ≡ false)) 1) (And (RowFits ts rs (length rs)) 6) reads-term
+      (λ a u h. reads-bind (name (length (variantsOf ts (typeAt ts rs a)))) _ (And (λ v. v < length (variantsOf ts (typeAt ts rs a))) 1) (λ r z. RowFits ts rs (length rs) r × (u + z ≤ 6))
+      (reads-name (length (variantsOf ts (typeAt ts rs a))) (omega (arith, variants (typeAt ts rs a))))
+      (λ v w hv. reads-bind (name (length (fieldsOf ts (typeAt ts rs a) v))) _ (And (λ p. p < length (fieldsOf ts (typeAt ts rs a) v)) 1) (λ r z. RowFits ts rs (length rs) r × (u + (w + z) ≤ 6))
+      (reads-name (length (fieldsOf ts (typeAt ts rs a) v)) (omega (arith, fields (typeAt ts rs a) v)))
+      (λ p x hp. reads-return (field (typeAt ts rs a) a v p) (λ r z. RowFits ts rs (length rs) r × (u + (w + (x + z)) ≤ 6)) ((h .0 .0, refl, hv .0, hp .0), omega (arith, h .1, hv .1, hp .1)))))
+
+  -- ---- literals
+
+  reads-pair : (make : ℕ → ℕ → Literal) → ((i j : ℕ) → i < length rs → j < length rs → typeAt ts rs i ≡ typeAt ts rs j → LiteralFits ts rs (make i j))
+      → Reads (twoTerms ts rs make) (And (LiteralFits ts rs) 2)
+  reads-pair make f =
+      reads-bind (name (length rs)) _ (And (λ p. p < length rs) 1) (And (LiteralFits ts rs) 2) (reads-name (length rs) (omega arith))
+      (λ i u hi. reads-bind (name (length rs)) _ (And (λ p. p < length rs) 1) (λ l z. LiteralFits ts rs l × (u + z ≤ 2)) (reads-name (length rs) (omega arith))
+      (λ j w hj. reads-asked 7 (eqb (typeAt ts rs i) (typeAt ts rs j)) _ (λ l z. LiteralFits ts rs l × (u + (w + z) ≤ 2))
+      (λ e. reads-return (make i j) (λ l z. LiteralFits ts rs l × (u + (w + z) ≤ 2)) (f i j (hi .0) (hj .0) (eqb-true _ _ e), omega (arith, hi .1, hj .1)))))
+
+  reads-tested : (make : ℕ → ℕ → Literal) → ((i v : ℕ) → i < length rs → v < length (variantsOf ts (typeAt ts rs i)) → LiteralFits ts rs (make i v))
+      → Reads (termAndVariant ts rs make) (And (LiteralFits ts rs) 2)
+  reads-tested make f =
+      reads-bind (variantTerm ts rs) _ (And (λ a. (a < length rs) × (isNumber ts (typeAt ts rs a) ≡ false)) 1) (And (LiteralFits ts rs) 2) reads-term
+      (λ a u h. reads-bind (name (length (variantsOf ts (typeAt ts rs a)))) _ (And (λ v. v < length (variantsOf ts (typeAt ts rs a))) 1) (λ l z. LiteralFits ts rs l × (u + z ≤ 2))
+      (reads-name (length (variantsOf ts (typeAt ts rs a))) (omega (arith, variants (typeAt ts rs a))))
+      (λ v w hv. reads-return (make a v) (λ l z. LiteralFits ts rs l × (u + (w + z) ≤ 2)) (f a v (h .0 .0) (hv .0), omega (arith, h .1, hv .1))))
+
+  reads-literalOf : (k : ℕ) → Reads (literalOf ts rs k) (And (LiteralFits ts rs) 2)
+  reads-literalOf zero = reads-pair equal (λ i j a b e. (a, b, e))
+  reads-literalOf (suc zero) = reads-pair unequal (λ i j a b e. (a, b, e))
+  reads-literalOf (suc (suc zero)) = reads-tested is (λ i v a b. (a, b))
+  reads-literalOf (suc (suc (suc k))) = reads-tested isnt (λ i v a b. (a, b))
+
+  reads-literal : Reads (literal ts rs) (And (LiteralFits ts rs) 3)
+  reads-literal =
+      reads-bind kind _ (And (λ n. n < 4) 1) (And (LiteralFits ts rs) 3) reads-kind
+      (λ k u h. reads-weaken (literalOf ts rs k) (And (LiteralFits ts rs) 2) (λ l z. LiteralFits ts rs l × (u + z ≤ 3)) (reads-literalOf k) (λ l w p. (p .0, omega (arith, h .1, p .1))))
+
+-- ---- rows after rows
+
+abbrev RowsFit : Types → List Row → Type 0
+RowsFit ts rs = (i : ℕ) → i < length rs → RowFits ts rs i (rowAt rs i)
+
+module _ (ts : Types) (rs : List Row) (r : Row) where
+  abbrev longer : List Row
+  longer = rs ++ (r ∷ [])
+
+  old : (p : ℕ) → p < length rs → rowAt longer p ≡ rowAt rs p
+  old p h = List·getD-append rs (r ∷ []) noRow p h
+
+  -- a row that fits goes on fitting
+  still : (i : ℕ) → i ≤ length rs → (w : Row) → RowFits ts rs i w → RowFits ts longer i w
+  still i h (variable u) f = f
+  still i h (constant u z) f = f
+  still i h (built u v ps) f =
+      (f .0, f .1, f .2, map-cong (typeAt ts longer) (typeAt ts rs) ps (λ p m. ap (typeOf ts) (old p (omega (arith, all-mem (f .2) p m)))) ∙ f .3)
+  still i h (field u a v p) f = (f .0, ap (typeOf ts) (old a (omega (arith, f .0))) ∙ f .1, f .2, f .3)
+
+  fit-more : RowsFit ts rs → RowFits ts rs (length rs) r → RowsFit ts longer
+  fit-more g f i h =
+      by-test (ltb i (length rs))
+      (λ e. let l : i < length rs = ltb-true i (length rs) e in subst (RowFits ts longer i) (sym (old i l)) (still i (omega arith) (rowAt rs i) (g i l)))
+      (λ e.
+      let q : length rs ≡ i = omega (arith, ltb-false i (length rs) e, length-append rs (r ∷ [])) in
+      subst (λ (j : ℕ). RowFits ts longer j (rowAt longer j)) q
+      (subst (RowFits ts longer (length rs)) (sym (getD-append-seam rs r [] noRow)) (still (length rs) (omega arith) r f)))
+
+module _ (ts : Types) (names : length ts ≤ 6) (variants : (t : ℕ) → length (variantsOf ts t) ≤ variantLimit) (fields : (t v : ℕ) → length (fieldsOf ts t v) ≤ fieldLimit) where
+  reads-rows : (left : ℕ) (rs : List Row) → left + length rs ≤ 24 → RowsFit ts rs
+      → Reads (rows left ts rs) (λ xs u. (length xs ≡ left + length rs) × RowsFit ts xs × (u ≤ 7 * left))
+  reads-rows zero rs small g = reads-return rs (λ xs u. (length xs ≡ 0 + length rs) × RowsFit ts xs × (u ≤ 7 * 0)) (omega arith, g, omega arith)
+  reads-rows (suc left) rs small g =
+      reads-bind kind _ (And (λ n. n < 4) 1) (Good (λ z. z)) reads-kind
+      (λ k u hk. reads-bind (rowOf ts rs k) _ (And (RowFits ts rs (length rs)) 6) (Good (λ z. u + z)) (reads-row ts rs (omega arith) names variants fields k)
+      (λ r w hr. reads-weaken (rows left ts (rs ++ (r ∷ []))) (λ xs x. (length xs ≡ left + length (rs ++ (r ∷ []))) × RowsFit ts xs × (x ≤ 7 * left)) (Good (λ z. u + (w + z)))
+      (reads-rows left (rs ++ (r ∷ [])) (omega (arith, length-append rs (r ∷ []))) (fit-more ts rs r g (hr .0)))
+      (λ xs x h. (omega (arith, h .0, length-append rs (r ∷ [])), h .1, omega (arith, hk .1, hr .1, h .2)))))
+    where
+      Good : (ℕ → ℕ) → List Row → ℕ → Type 0
+      Good bytes xs z = (length xs ≡ suc left + length rs) × RowsFit ts xs × (bytes z ≤ 7 * suc left)
+
+-- ---- question 8
+
+defaults-length : (k : ℕ) (ts : Types) → length (defaultRounds k ts) ≡ length ts
+defaults-length zero ts = map-from-length (λ t. firstDefault t (variantsOf ts t)) (length ts) 0
+defaults-length (suc k) ts = map-from-length (λ t. nextDefault (defaultRounds k ts) t (variantsOf ts t) (getD (defaultRounds k ts) t none)) (length ts) 0
+
+all-some : (ds : Defaults) (t : ℕ) → all isSome ds ≡ true → t < length ds → (m : Message) × (getD ds t none ≡ some m)
+all-some [] t e h = absurd (omega arith)
+all-some (none ∷ ds) t e h = absurd (false≢true e)
+all-some (some m ∷ ds) zero e h = (m, refl)
+all-some (some m ∷ ds) (suc t) e h = all-some ds t e (omega arith)
+
+-- ---- the file
+
+types-at : (many : ℕ) (ts : Types) → All (TypeFits many) ts → (t : ℕ) → TypeFits many (variantsOf ts t)
+types-at many [] none t = (omega arith, none)
+types-at many (x ∷ ts) (more a bs) zero = a
+types-at many (x ∷ ts) (more a bs) (suc t) = types-at many ts bs t
+
+variants-at : (many : ℕ) (vs : List Variant) → All (VariantFits many) vs → (v : ℕ) → VariantFits many (getD vs v [])
+variants-at many [] none v = (omega arith, none)
+variants-at many (x ∷ xs) (more a bs) zero = a
+variants-at many (x ∷ xs) (more a bs) (suc v) = variants-at many xs bs v
+
+-- T and N and L; a byte for each type; four for each variant, seven for each row, three for each line
+abbrev pub longestFile : Limits → ℕ
+longestFile limits = 3 + limits .types + 4 * totalVariantLimit + 7 * limits .terms + 3 * limits .lines
+
+reads-ended : Reads ended (λ x u. u ≡ 0)
+unfolding Reads
+reads-ended [] a rest e = let q : [] ≡ rest = cc in (0, ap length q ∙ omega arith, refl)
+reads-ended (b ∷ bs) a rest e = let z : _≡_ {A = ℕ} 0 1 = cc in absurd (omega arith)
+
+reads-file : (limits : Limits) → Supported limits → Reads (file limits) (λ g u. WellFormed limits g × (u ≤ longestFile limits))
+unfolding file
+reads-file limits sup =
+    reads-bind (count (limits .types)) _ (And (λ n. n ≤ limits .types) 1) (Good (λ z. z)) (reads-count (limits .types) (omega (arith, sup .types)))
+    (λ many b1 hm. reads-bind (types many many 0) _ (λ ts u. (length ts ≡ many) × All (TypeFits many) ts × (u + 4 * 0 ≤ many + 4 * totalVariantLimit)) (Good (λ z. b1 + z)) (reads-types many many 0 (omega (arith, hm .0, sup .types)) (omega arith))
+    (λ ts b2 ht. reads-asked 8 (allDefaults ts) _ (Good (λ z. b1 + (b2 + z))) (λ e8. reads-asked 9 (infiniteFields ts) _ (Good (λ z. b1 + (b2 + z))) (λ e9.
+    let tf : (t : ℕ) → TypeFits many (variantsOf ts t) = types-at many ts (ht .1) in
+    let vf : (t v : ℕ) → VariantFits many (fieldsOf ts t v) = λ t v. variants-at many (variantsOf ts t) (tf t .1) v in
+    let few : length ts ≤ 6 = omega (arith, ht .0, hm .0, sup .types) in
+    reads-bind (count (limits .terms)) _ (And (λ n. n ≤ limits .terms) 1) (Good (λ z. b1 + (b2 + z))) (reads-count (limits .terms) (omega (arith, sup .terms)))
+    (λ n b3 hn. reads-bind (rows n ts []) _ (λ xs u. (length xs ≡ n + 0) × RowsFit ts xs × (u ≤ 7 * n)) (Good (λ z. b1 + (b2 + (b3 + z))))
+    (reads-rows ts few (λ t. tf t .0) (λ t v. vf t v .0) n [] (omega (arith, hn .0, sup .terms)) (λ i h. absurd (omega arith)))
+    (λ rs b4 hr. reads-bind (count (limits .lines)) _ (And (λ n. n ≤ limits .lines) 1) (Good (λ z. b1 + (b2 + (b3 + (b4 + z))))) (reads-count (limits .lines) (omega (arith, sup .lines)))
+    (λ l b5 hl. reads-bind (times l (literal ts rs)) _ (λ ls u. (length ls ≡ l) × All (LiteralFits ts rs) ls × (u ≤ l * 3)) (Good (λ z. b1 + (b2 + (b3 + (b4 + (b5 + z))))))
+    (reads-times l 3 (literal ts rs) (LiteralFits ts rs) (reads-literal ts rs (omega (arith, hr .0, hn .0, sup .terms)) few (λ t. tf t .0) (λ t v. vf t v .0)))
+    (λ ls b6 hls. reads-bind ended _ (λ x u. u ≡ 0) (Good (λ z. b1 + (b2 + (b3 + (b4 + (b5 + (b6 + z))))))) reads-ended
+    (λ x b7 h7. reads-return (record { types = ts; rows = rs; literals = ls }) (Good (λ z. b1 + (b2 + (b3 + (b4 + (b5 + (b6 + (b7 + z))))))))
+    (record {
+      typeCount = omega (arith, ht .0, hm .0);
+      variantCounts = λ t. tf t .0;
+      fieldCounts = λ t v. vf t v .0;
+      fieldTypes = λ t v. subst (λ (k : ℕ). All (λ f. f < k) (fieldsOf ts t v)) (sym (ht .0)) (vf t v .1);
+      ready = λ t h. all-some (defaults ts) t e8 (omega (arith, defaults-length (length ts) ts));
+      infinite = e9;
+      termCount = omega (arith, hr .0, hn .0);
+      rows = hr .1;
+      lineCount = omega (arith, hls .0, hl .0);
+      literals = λ l m. all-mem (hls .1) l m }, omega (arith, hm .0, hm .1, ht .2, hn .0, hn .1, hr .2, hl .0, hl .1, hls .2, h7)))))))))))
+  where
+    Good : (ℕ → ℕ) → Guard → ℕ → Type 0
+    Good bytes g z = WellFormed limits g × (bytes z ≤ longestFile limits)
+
+
+-- an accepted file holds a well-formed guard
+pub accepted-well-formed : (limits : Limits) → Supported limits → (bytes : List ℕ) (g : Guard) (rest : List ℕ) → file limits bytes ≡ accepted g rest → WellFormed limits g
+unfolding Reads
+accepted-well-formed limits sup bytes g rest e = let (u, l, h) = reads-file limits sup bytes g rest e in h .0
+
+-- after the last literal there is no byte left
+pub accepted-ended : (limits : Limits) (bytes : List ℕ) (g : Guard) (rest : List ℕ) → file limits bytes ≡ accepted g rest → rest ≡ []
+unfolding file Ends
+accepted-ended limits =
+    ends-bind (count (limits .types)) _ (λ many. ends-bind (types many many 0) _ (λ ts. ends-bind (ask 8 (allDefaults ts)) _ (λ a. ends-bind (ask 9 (infiniteFields ts)) _
+    (λ b. ends-bind (count (limits .terms)) _ (λ n. ends-bind (rows n ts []) _ (λ rs. ends-bind (count (limits .lines)) _ (λ l. ends-bind (times l (literal ts rs)) _ (λ ls. last ts rs ls))))))))
+  where
+    last : (ts : Types) (rs : List Row) (ls : List Literal) → Ends {A = Guard} (ended >> return (record { types = ts; rows = rs; literals = ls }))
+    last ts rs ls [] g rest e = cc
+    last ts rs ls (b ∷ bs) g rest e = let z : _≡_ {A = ℕ} 0 1 = cc in absurd (omega arith)
+
+pub accepted-length : (limits : Limits) → Supported limits → (bytes : List ℕ) (g : Guard) (rest : List ℕ) → file limits bytes ≡ accepted g rest → length bytes ≤ longestFile limits
+unfolding Reads
+accepted-length limits sup bytes g rest e = let (u, l, h) = reads-file limits sup bytes g rest e in omega (arith, l, h .1, ap length (accepted-ended limits bytes g rest e))
+
+-- "No accepted file is longer than 465 bytes."
+pub at-most-465 : (bytes : List ℕ) (g : Guard) (rest : List ℕ) → file base bytes ≡ accepted g rest → length bytes ≤ 465
+at-most-465 bytes g rest e = accepted-length base (record { types = omega arith; terms = omega arith; lines = omega arith }) bytes g rest e

@@ -1,0 +1,11 @@
+pub mod ClosureEnds
+pub mod ClosureBelow
+pub mod ClosureState
+pub mod LeastClosure
+pub mod Reading
+pub mod Accepted
+pub mod DefaultLaws
+pub mod TableLaws
+pub mod NodeLaws
+pub mod SearchLaws
+pub mod AnswerLaws

@@ -1,0 +1,59 @@
+-- The answer for a file, a budget and two buffers, and what each case of the code's answer stands for. Assumes nothing.
+use mathlib.Core.Bool.{Bool, true, false, _&&_, cond}
+use mathlib.Core.List.{List}
+use Prim.Native.Nat.{ℕ}
+use lib.Dec.{leb}
+use Rattle.guard.specs.Limits.{Limits, rowBuffer, placeBuffer}
+use Rattle.guard.specs.Guard.{Guard}
+use Rattle.guard.specs.Number.{Parsed, Parsed.refused, Parsed.accepted}
+use Rattle.guard.specs.File.{file}
+use Rattle.guard.specs.Search.{Visits, Visits.opened, Visits.closed, visits, searchOf}
+use Rattle.guard.specs.declared.Answer.{Answer}
+use Rattle.guard.specs.declared.Answer.the-variants.{Refused, Sat, Unsat, Spent}
+
+-- "Out: REFUSED with a number; or SAT with the node count and the number of rows; or UNSAT with the node count; or SPENT
+-- with the budget as node count." The number of rows is free, so it is not part of what is defined.
+pub data Outcome : Type 0 where
+  refusal : ℕ → Outcome
+  sat : ℕ → Outcome
+  unsat : ℕ → Outcome
+  spent : ℕ → Outcome
+
+-- "Open means SAT; all closed means UNSAT."
+abbrev pub verdict : Visits → Outcome
+verdict (opened n) = sat n
+verdict (closed n) = unsat n
+
+-- "SPENT is given precisely if the walk would visit more nodes than the budget."
+abbrev pub withBudget : ℕ → Visits → Outcome
+withBudget budget w = cond (leb (visits w) budget) (verdict w) (spent budget)
+
+abbrev pub afterFile : ℕ → Parsed Guard → Outcome
+afterFile budget (refused q) = refusal q
+afterFile budget (accepted g rest) = withBudget budget (searchOf g)
+
+-- question 1: "Are both buffers long enough?"
+abbrev pub afterBuffers : Bool → Limits → List ℕ → ℕ → Outcome
+afterBuffers false limits bytes budget = refusal 1
+afterBuffers true limits bytes budget = afterFile budget (file limits bytes)
+
+-- the answer for a file, a budget, and the lengths of the row buffer and the place buffer
+unfoldable pub outcome : Limits → List ℕ → ℕ → ℕ → ℕ → Outcome
+outcome limits bytes budget rowLength placeLength =
+    afterBuffers (leb (rowBuffer limits) rowLength && leb (placeBuffer limits) placeLength) limits bytes budget
+
+-- ---- the code's answer
+
+-- "a definition sets out this paper's number and values for each of its cases"
+unfoldable pub outcomeOf : Answer → Outcome
+outcomeOf (Refused q) = refusal q
+outcomeOf (Sat n r) = sat n
+outcomeOf (Unsat n) = unsat n
+outcomeOf (Spent b) = spent b
+
+-- the number of rows shown; none but after SAT
+unfoldable pub rowsOf : Answer → ℕ
+rowsOf (Refused q) = 0
+rowsOf (Sat n r) = r
+rowsOf (Unsat n) = 0
+rowsOf (Spent b) = 0

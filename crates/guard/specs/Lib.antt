@@ -1,0 +1,16 @@
+pub mod Limits
+pub mod Message
+pub mod Types
+pub mod Guard
+pub mod Number
+pub mod File
+pub mod WellFormed
+pub mod Meaning
+pub mod Terms
+pub mod Rules
+pub mod Closure
+pub mod Node
+pub mod Search
+pub mod Answer
+pub mod Shown
+pub mod Cases

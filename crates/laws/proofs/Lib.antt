@@ -1,0 +1,4 @@
+pub mod Bools
+pub mod Lists
+pub mod Bits
+pub mod Stores

@@ -1,0 +1,6 @@
+-- A property of every element of a list. Assumes nothing.
+use mathlib.Core.List.{List, [], _∷_}
+
+pub data All {A : Type 0} (P : A → Type 0) : List A → Type 0 where
+  none : All P []
+  more : {x : A} {xs : List A} → P x → All P xs → All P (x ∷ xs)

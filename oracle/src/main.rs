@@ -1,0 +1,143 @@
+//! The command line of the second solver.
+
+use std::env;
+use std::fs;
+use std::io::{self, Read, Write};
+use std::path::Path;
+use std::process::ExitCode;
+
+use oracle::answer::answer;
+use oracle::guard::Limits;
+use oracle::vectors::{self, USUAL_BUDGET};
+use oracle::{read, smt, text};
+
+const USAGE: &str = "\
+usage: oracle answer FILE [--budget N]        the answer to a guard file
+       oracle check FILE OUTPUT [--budget N]  checks what guarddesk printed
+       oracle smt FILE                        the guard in SMT-LIB 2
+       oracle vectors [--check] DIR           writes or checks DIR/vectors.txt
+       oracle pack VECTORS OUT                packs vectors into one binary file
+FILE and OUTPUT may be - for standard input. N is 1000000 if not given.";
+
+/// Why the program fails.
+enum Failure {
+    /// The command line is wrong, or a file can't be read or written.
+    Usage(String),
+    /// What was to be checked is wrong.
+    Wrong(String),
+}
+
+fn main() -> ExitCode {
+    let arguments: Vec<_> = env::args_os().skip(1).collect();
+    let words: Option<Vec<&str>> = arguments.iter().map(|word| word.to_str()).collect();
+    let result = match words {
+        Some(words) => run(&words),
+        None => Err(Failure::Usage("the arguments aren't UTF-8".to_string())),
+    };
+    // Nothing is left to try if standard error is gone as well.
+    match result {
+        Ok(()) => ExitCode::SUCCESS,
+        Err(Failure::Wrong(why)) => {
+            let _ = writeln!(io::stderr(), "oracle: {why}");
+            ExitCode::from(1)
+        }
+        Err(Failure::Usage(why)) => {
+            let _ = writeln!(io::stderr(), "oracle: {why}");
+            ExitCode::from(2)
+        }
+    }
+}
+
+fn run(words: &[&str]) -> Result<(), Failure> {
+    match *words {
+        ["answer", file] => answer_command(file, USUAL_BUDGET),
+        ["answer", file, "--budget", n] => answer_command(file, budget(n)?),
+        ["check", file, output] => check_command(file, output, USUAL_BUDGET),
+        ["check", file, output, "--budget", n] => check_command(file, output, budget(n)?),
+        ["smt", file] => smt_command(file),
+        ["vectors", "--check", dir] => check_vectors(dir),
+        ["vectors", dir] => write_vectors(dir),
+        ["pack", vectors, out] => pack_command(vectors, out),
+        _ => Err(Failure::Usage(format!("what is asked isn't clear\n{USAGE}"))),
+    }
+}
+
+fn budget(word: &str) -> Result<u32, Failure> {
+    word.parse().map_err(|_| {
+        Failure::Usage(format!("the budget {word:?} isn't a number from 0 to {}", u32::MAX))
+    })
+}
+
+fn load(path: &str) -> Result<Vec<u8>, Failure> {
+    let mut bytes = Vec::new();
+    let result = if path == "-" {
+        io::stdin().read_to_end(&mut bytes).map(|_| bytes)
+    } else {
+        fs::read(path)
+    };
+    result.map_err(|error| Failure::Usage(format!("{path} can't be read: {error}")))
+}
+
+fn load_text(path: &str) -> Result<String, Failure> {
+    let bytes = load(path)?;
+    String::from_utf8(bytes).map_err(|_| Failure::Wrong(format!("{path} isn't UTF-8 text")))
+}
+
+fn store(path: &Path, bytes: &[u8]) -> Result<(), Failure> {
+    fs::write(path, bytes)
+        .map_err(|error| Failure::Usage(format!("{} can't be written: {error}", path.display())))
+}
+
+fn print(text: &str) -> Result<(), Failure> {
+    let mut out = io::stdout().lock();
+    let result = out.write_all(text.as_bytes()).and_then(|()| out.flush());
+    result.map_err(|error| Failure::Usage(format!("standard output can't be written: {error}")))
+}
+
+fn answer_command(file: &str, budget: u32) -> Result<(), Failure> {
+    let answer = answer(&load(file)?, budget, Limits::BASE);
+    print(&format!("{answer}\n"))
+}
+
+fn check_command(file: &str, output: &str, budget: u32) -> Result<(), Failure> {
+    if file == "-" && output == "-" {
+        let why = "only one of FILE and OUTPUT can be standard input";
+        return Err(Failure::Usage(why.to_string()));
+    }
+    let file = load(file)?;
+    let output = load_text(output)?;
+    text::check(&file, &output, budget, Limits::BASE).map_err(Failure::Wrong)?;
+    print("ok\n")
+}
+
+fn smt_command(file: &str) -> Result<(), Failure> {
+    match read::read(&load(file)?, Limits::BASE) {
+        Ok(guard) => print(&smt::script(&guard)),
+        Err(question) => {
+            Err(Failure::Wrong(format!("the file is REFUSED {}", question.number())))
+        }
+    }
+}
+
+fn write_vectors(dir: &str) -> Result<(), Failure> {
+    let all = vectors::all();
+    let path = Path::new(dir).join("vectors.txt");
+    store(&path, vectors::text(&all).as_bytes())?;
+    print(&format!("{} vectors written\n", all.len()))
+}
+
+fn check_vectors(dir: &str) -> Result<(), Failure> {
+    let path = Path::new(dir).join("vectors.txt");
+    let found = load_text(&path.to_string_lossy())?;
+    let all = vectors::all();
+    match vectors::first_difference(&found, &vectors::text(&all)) {
+        None => print(&format!("ok, {} vectors\n", all.len())),
+        Some(difference) => Err(Failure::Wrong(format!("{}: {difference}", path.display()))),
+    }
+}
+
+fn pack_command(path: &str, out: &str) -> Result<(), Failure> {
+    let vectors = vectors::parse(&load_text(path)?).map_err(Failure::Wrong)?;
+    let packed = vectors::pack(&vectors).map_err(Failure::Wrong)?;
+    store(Path::new(out), &packed)
+}

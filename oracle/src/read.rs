@@ -1,0 +1,199 @@
+//! Reads a guard file, asking the questions of document 01 in their order.
+
+use crate::guard::{Guard, Limits, Line, Row, FIELDS, VARIANTS_IN_ALL, VARIANTS_PER_TYPE};
+use crate::number;
+use crate::types::{self, Type};
+
+/// The questions of document 01; a "no" refuses with the question's number.
+#[derive(Clone, Copy, Debug, PartialEq, Eq)]
+pub enum Question {
+    BuffersLongEnough = 1,
+    NumberEnds = 2,
+    NumberForm = 3,
+    CountWithinLimits = 4,
+    NamedThingExists = 5,
+    KindListed = 6,
+    TypeFits = 7,
+    DefaultsExist = 8,
+    FieldsCanGrow = 9,
+    FileEnded = 10,
+}
+
+impl Question {
+    pub fn number(self) -> u8 {
+        self as u8
+    }
+
+    /// Goes on if the answer is yes.
+    fn ask(self, yes: bool) -> Result<(), Question> {
+        if yes {
+            Ok(())
+        } else {
+            Err(self)
+        }
+    }
+}
+
+/// "The row buffer (at least 16,384 numbers)."
+pub const ROW_BUFFER: usize = 16_384;
+/// "The place buffer (at least 24)."
+pub const PLACE_BUFFER: usize = 24;
+
+/// Question 1: "are both buffers long enough?"
+pub fn buffers_long_enough(row_buffer: usize, place_buffer: usize) -> Result<(), Question> {
+    Question::BuffersLongEnough.ask(row_buffer >= ROW_BUFFER && place_buffer >= PLACE_BUFFER)
+}
+
+/// Questions 2 to 10: the guard that `file` holds.
+pub fn read(file: &[u8], limits: Limits) -> Result<Guard, Question> {
+    let mut reader = Reader { rest: file };
+    let types = reader.types(limits)?;
+
+    // "After the last type and before N."
+    let defaults: Option<Vec<_>> = types::defaults(&types).into_iter().collect();
+    let defaults = defaults.ok_or(Question::DefaultsExist)?;
+    Question::FieldsCanGrow.ask(types::fields_can_grow(&types))?;
+
+    let mut guard = Guard {
+        limits,
+        types,
+        defaults,
+        rows: Vec::new(),
+        row_types: Vec::new(),
+        lines: Vec::new(),
+    };
+    for _ in 0..reader.count(limits.terms)? {
+        let (row, ty) = reader.row(&guard)?;
+        guard.rows.push(row);
+        guard.row_types.push(ty);
+    }
+    for _ in 0..reader.count(limits.lines)? {
+        let line = reader.line(&guard)?;
+        guard.lines.push(line);
+    }
+    Question::FileEnded.ask(reader.rest.is_empty())?;
+    Ok(guard)
+}
+
+struct Reader<'a> {
+    rest: &'a [u8],
+}
+
+impl Reader<'_> {
+    /// Questions 2 and 3.
+    fn number(&mut self) -> Result<u32, Question> {
+        let (value, length) = number::read(self.rest).map_err(|fault| match fault {
+            number::Fault::CutOff => Question::NumberEnds,
+            number::Fault::Form => Question::NumberForm,
+        })?;
+        self.rest = &self.rest[length..];
+        Ok(value)
+    }
+
+    /// A number below `bound`; any other gets a no to `question`.
+    fn below(&mut self, bound: usize, question: Question) -> Result<usize, Question> {
+        let value = self.number()?;
+        match usize::try_from(value) {
+            Ok(value) if value < bound => Ok(value),
+            _ => Err(question),
+        }
+    }
+
+    /// "If a count, is it within its limits?"
+    fn count(&mut self, limit: usize) -> Result<usize, Question> {
+        self.below(limit + 1, Question::CountWithinLimits)
+    }
+
+    /// "If it names a type, term, variant or position, is that thing there?"
+    fn name(&mut self, things: usize) -> Result<usize, Question> {
+        self.below(things, Question::NamedThingExists)
+    }
+
+    /// "If a kind, is it listed?" Rows and lines both have the kinds 0 to 3.
+    fn kind(&mut self) -> Result<usize, Question> {
+        self.below(4, Question::KindListed)
+    }
+
+    fn types(&mut self, limits: Limits) -> Result<Vec<Type>, Question> {
+        let many = self.count(limits.types)?;
+        let mut total = 0;
+        let mut types = Vec::new();
+        for _ in 0..many {
+            // "The total of 48 included."
+            let variants = self.count(VARIANTS_PER_TYPE.min(VARIANTS_IN_ALL - total))?;
+            total += variants;
+            let mut ty = Type::default();
+            for _ in 0..variants {
+                let fields = self.count(FIELDS)?;
+                // "A later type may be named."
+                let fields: Result<_, _> = (0..fields).map(|_| self.name(many)).collect();
+                ty.variants.push(fields?);
+            }
+            types.push(ty);
+        }
+        Ok(types)
+    }
+
+    /// Names an earlier row, and gives its type as well.
+    fn term(&mut self, guard: &Guard) -> Result<(usize, usize), Question> {
+        let term = self.name(guard.rows.len())?;
+        Ok((term, guard.row_types[term]))
+    }
+
+    /// Names an earlier row of variant type: "a read or tested term".
+    fn variant_term(&mut self, guard: &Guard) -> Result<(usize, usize), Question> {
+        let (term, ty) = self.term(guard)?;
+        Question::TypeFits.ask(!guard.types[ty].is_number())?;
+        Ok((term, ty))
+    }
+
+    /// A row and its type.
+    fn row(&mut self, guard: &Guard) -> Result<(Row, usize), Question> {
+        match self.kind()? {
+            0 => {
+                let ty = self.name(guard.types.len())?;
+                Ok((Row::Variable { ty }, ty))
+            }
+            1 => {
+                let ty = self.name(guard.types.len())?;
+                Question::TypeFits.ask(guard.types[ty].is_number())?;
+                let value = number::unfold(self.number()?);
+                Ok((Row::Constant { ty, value }, ty))
+            }
+            2 => {
+                let ty = self.name(guard.types.len())?;
+                Question::TypeFits.ask(!guard.types[ty].is_number())?;
+                let variant = self.name(guard.types[ty].variants.len())?;
+                let mut parts = Vec::new();
+                for &field in guard.fields(ty, variant) {
+                    let (part, part_type) = self.term(guard)?;
+                    Question::TypeFits.ask(part_type == field)?;
+                    parts.push(part);
+                }
+                Ok((Row::Built { ty, variant, parts }, ty))
+            }
+            _ => {
+                let (term, ty) = self.variant_term(guard)?;
+                let variant = self.name(guard.types[ty].variants.len())?;
+                let fields = guard.fields(ty, variant);
+                let position = self.name(fields.len())?;
+                let row = Row::Read { term, variant, position };
+                Ok((row, fields[position]))
+            }
+        }
+    }
+
+    fn line(&mut self, guard: &Guard) -> Result<Line, Question> {
+        let kind = self.kind()?;
+        if kind < 2 {
+            let (a, a_type) = self.term(guard)?;
+            let (b, b_type) = self.term(guard)?;
+            Question::TypeFits.ask(a_type == b_type)?;
+            Ok(if kind == 0 { Line::Equal(a, b) } else { Line::Unequal(a, b) })
+        } else {
+            let (term, ty) = self.variant_term(guard)?;
+            let variant = self.name(guard.types[ty].variants.len())?;
+            Ok(if kind == 2 { Line::Is(term, variant) } else { Line::Isnt(term, variant) })
+        }
+    }
+}

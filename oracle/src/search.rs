@@ -1,0 +1,157 @@
+//! The search whose nodes are counted.
+
+use crate::closure::{Closure, Decision};
+use crate::guard::{Guard, Line};
+use crate::problem::{only, Problem};
+
+/// Why a node is closed.
+#[derive(Clone, Copy, Debug, PartialEq, Eq)]
+pub enum Reason {
+    /// "A label is empty."
+    EmptyLabel,
+    /// "Two terms of an unequal line are equal."
+    UnequalLine,
+    /// "One class holds two constants of different value."
+    Constants,
+    /// "A class is a part of itself through built rows."
+    Cycle,
+}
+
+/// The first reason that applies, in the order of document 01.
+pub fn closed(problem: &Problem, closure: &Closure) -> Option<Reason> {
+    if problem.variant_terms().any(|(term, _)| closure.label(term) == 0) {
+        return Some(Reason::EmptyLabel);
+    }
+    let broken = |line: &Line| matches!(*line, Line::Unequal(a, b) if closure.equal(a, b));
+    if problem.guard.lines.iter().any(broken) {
+        return Some(Reason::UnequalLine);
+    }
+    for a in &problem.constants {
+        for b in &problem.constants {
+            if a.value != b.value && closure.equal(a.term, b.term) {
+                return Some(Reason::Constants);
+            }
+        }
+    }
+    has_cycle(problem, closure).then_some(Reason::Cycle)
+}
+
+/// Removes classes without parts left until nothing changes; what stays has a
+/// part that stays, so some class there is a part of itself.
+fn has_cycle(problem: &Problem, closure: &Closure) -> bool {
+    let built = closure.built(problem);
+    let mut part_of: Vec<(usize, usize)> = Vec::new();
+    for row in &built {
+        for &part in &row.parts {
+            part_of.push((closure.class(row.term), closure.class(part)));
+        }
+    }
+    loop {
+        let before = part_of.len();
+        let wholes: Vec<usize> = part_of.iter().map(|&(whole, _)| whole).collect();
+        part_of.retain(|(_, part)| wholes.contains(part));
+        if part_of.len() == before {
+            return before > 0;
+        }
+    }
+}
+
+/// What a node splits on; `is` is the first child's.
+#[derive(Clone, Copy, Debug, PartialEq, Eq)]
+pub enum Split {
+    /// "The lowest field row whose read term's label holds its variant and
+    /// another one."
+    First { term: usize, variant: usize },
+    /// "The lowest term whose label holds two or more variants, all fieldless,
+    /// on its lowest variant."
+    Second { term: usize, variant: usize },
+}
+
+pub fn split(problem: &Problem, closure: &Closure) -> Option<Split> {
+    for read in &problem.reads {
+        let (term, variant) = (read.whole.term, read.whole.variant);
+        let label = closure.label(term);
+        if label & only(variant) != 0 && label != only(variant) {
+            return Some(Split::First { term, variant });
+        }
+    }
+    for (term, ty) in problem.variant_terms() {
+        let label = closure.label(term);
+        if label.count_ones() >= 2 && label & !problem.fieldless[ty] == 0 {
+            let variant = label.trailing_zeros() as usize;
+            return Some(Split::Second { term, variant });
+        }
+    }
+    None
+}
+
+/// How a search ended.
+#[derive(Clone, Copy, Debug, PartialEq, Eq)]
+pub enum End {
+    /// An open node was found.
+    Open,
+    /// All nodes are closed.
+    Closed,
+    /// The budget didn't allow the next node.
+    Spent,
+}
+
+/// What a search met on its way.
+#[derive(Clone, Copy, Debug, Default, PartialEq, Eq)]
+pub struct Tally {
+    pub nodes: u32,
+    /// Splits of the first and of the second kind.
+    pub splits: [u32; 2],
+    /// Closed nodes by their first reason.
+    pub closed: [u32; 4],
+}
+
+/// Searches with at most `budget` nodes.
+pub fn search(guard: &Guard, budget: u32) -> (End, Tally) {
+    let mut search = Search {
+        problem: Problem::new(guard),
+        budget,
+        decisions: Vec::new(),
+        tally: Tally::default(),
+    };
+    let end = search.visit();
+    (end, search.tally)
+}
+
+struct Search<'g> {
+    problem: Problem<'g>,
+    budget: u32,
+    decisions: Vec<Decision>,
+    tally: Tally,
+}
+
+impl Search<'_> {
+    /// "The walk goes depth first, "is" before "isn't", from the root, and
+    /// stops at the first open node. Each node visited counts 1."
+    fn visit(&mut self) -> End {
+        if self.tally.nodes == self.budget {
+            return End::Spent;
+        }
+        self.tally.nodes += 1;
+        let closure = Closure::new(&self.problem, &self.decisions);
+        if let Some(reason) = closed(&self.problem, &closure) {
+            self.tally.closed[reason as usize] += 1;
+            return End::Closed;
+        }
+        let (kind, term, variant) = match split(&self.problem, &closure) {
+            None => return End::Open,
+            Some(Split::First { term, variant }) => (0, term, variant),
+            Some(Split::Second { term, variant }) => (1, term, variant),
+        };
+        self.tally.splits[kind] += 1;
+        for is in [true, false] {
+            self.decisions.push(Decision { term, variant, is });
+            let end = self.visit();
+            self.decisions.pop();
+            if end != End::Closed {
+                return end;
+            }
+        }
+        End::Closed
+    }
+}

@@ -1,0 +1,239 @@
+//! Files that are refused, and files with chance damage.
+
+use super::{profiles, Set, USUAL_BUDGET};
+use crate::answer::{answer, Answer};
+use crate::encode::{bytes, Draft, Role, Token};
+use crate::guard::{Limits, FIELDS, VARIANTS_IN_ALL, VARIANTS_PER_TYPE};
+use crate::number;
+use crate::random::{self, Random};
+use crate::read::Question;
+use crate::types::Type;
+
+/// Files for each question.
+const EACH: usize = 24;
+
+pub fn add(set: &mut Set) {
+    let mut random = Random::named("refused");
+    let in_a_number = [
+        Question::NumberEnds,
+        Question::NumberForm,
+        Question::CountWithinLimits,
+        Question::NamedThingExists,
+        Question::KindListed,
+        Question::TypeFits,
+    ];
+    for question in in_a_number {
+        fill(set, question, || damage(&mut random, question));
+    }
+    for question in [Question::DefaultsExist, Question::FieldsCanGrow] {
+        fill(set, question, || bad_types(&mut random));
+    }
+    fill(set, Question::FileEnded, || too_long(&mut random));
+    limits(set);
+    prefixes(set);
+    chance(set);
+}
+
+/// Takes files from `make` until enough are refused as wanted. The budget
+/// doesn't matter then, so it varies.
+fn fill(set: &mut Set, question: Question, mut make: impl FnMut() -> Vec<u8>) {
+    let mut files: Vec<Vec<u8>> = Vec::new();
+    while files.len() < EACH {
+        let file = make();
+        let refused = answer(&file, 0, Limits::BASE) == Answer::Refused(question);
+        if refused && !files.contains(&file) {
+            files.push(file);
+        }
+    }
+    let budgets = [0, 1, USUAL_BUDGET, u32::MAX];
+    for (i, file) in files.iter().enumerate() {
+        let name = format!("refused-{}-{i:03}", question.number());
+        set.add(name, budgets[i % budgets.len()], file);
+    }
+}
+
+/// An accepted guard, small or large.
+fn whole(random: &mut Random) -> Draft {
+    let profiles = profiles::all();
+    let profile = &profiles[random.below(profiles.len())];
+    random::draft(random, profile)
+}
+
+/// An accepted file with one number made wrong.
+fn damage(random: &mut Random, question: Question) -> Vec<u8> {
+    let mut tokens = whole(random).tokens(Limits::BASE);
+    let at = random.below(tokens.len());
+    let token = &mut tokens[at];
+    let beyond = match random.below(4) {
+        0 => u32::MAX - 300,
+        1 => 128,
+        _ => random.below(4) as u32,
+    };
+    match (question, token.role) {
+        (Question::NumberEnds, _) => {
+            let mut file = bytes(&tokens[..=at]);
+            file.pop();
+            return file;
+        }
+        (Question::NumberForm, _) => return respelled(random, &tokens, at),
+        (Question::CountWithinLimits, Role::Count { limit }) => {
+            token.number = limit as u32 + 1 + beyond;
+        }
+        (Question::NamedThingExists, Role::Name { things } | Role::Typed { things }) => {
+            token.number = things as u32 + beyond;
+        }
+        (Question::KindListed, Role::Kind) => token.number = 4 + beyond,
+        (Question::TypeFits, Role::Typed { things }) => {
+            token.number = random.below(things) as u32;
+        }
+        _ => {}
+    }
+    let mut file = bytes(&tokens);
+    // What follows isn't read any more, so it may be anything.
+    if random.percent(30) {
+        let keep = bytes(&tokens[..=at]).len();
+        file.truncate(keep);
+    }
+    file
+}
+
+/// The file with one number in a wrong form.
+fn respelled(random: &mut Random, tokens: &[Token], at: usize) -> Vec<u8> {
+    let mut number = bytes(&tokens[at..=at]);
+    match random.below(3) {
+        0 => {
+            let last = number.len() - 1;
+            number[last] |= 0x80;
+            number.push(0x00);
+        }
+        1 => number = vec![0xff, 0x80, 0xff, 0x80, 0x10 + random.below(0x70) as u8],
+        _ => number = vec![0x80 + random.below(0x80) as u8; 5],
+    }
+    [bytes(&tokens[..at]), number, bytes(&tokens[at + 1..])].concat()
+}
+
+/// Types that are likely to lack a default or a field that can grow; the file
+/// stops after them or goes on.
+fn bad_types(random: &mut Random) -> Vec<u8> {
+    let many = 1 + random.below(6);
+    let mut draft = Draft::default();
+    for _ in 0..many {
+        let mut ty = Type::default();
+        let variants = if random.percent(20) { 0 } else { 1 + random.below(4) };
+        for _ in 0..variants {
+            let fields = random.weighted(&[3, 3, 2, 1]);
+            ty.variants.push((0..fields).map(|_| random.below(many)).collect());
+        }
+        draft.types.push(ty);
+    }
+    let mut file = draft.bytes();
+    let keep = file.len() - 2;
+    match random.below(3) {
+        0 => file.truncate(keep),
+        1 => file[keep] = 0x80,
+        _ => {}
+    }
+    file
+}
+
+/// An accepted file with something after it.
+fn too_long(random: &mut Random) -> Vec<u8> {
+    let mut file = whole(random).bytes();
+    for _ in 0..=random.below(3) {
+        file.push(random.next() as u8);
+    }
+    if random.percent(10) {
+        file.resize(1_024 + random.below(300), 0x80);
+    }
+    file
+}
+
+/// Each count at its limit and one above it.
+fn limits(set: &mut Set) {
+    let number_type = Type::default();
+    let wide = |variants: usize| Type {
+        variants: vec![vec![0; FIELDS]; variants],
+    };
+    for many in [Limits::BASE.types, Limits::BASE.types + 1] {
+        let draft = Draft::with_types(vec![number_type.clone(); many]);
+        set.draft(format!("limit-types-{many}"), &draft);
+    }
+    for many in [VARIANTS_PER_TYPE, VARIANTS_PER_TYPE + 1] {
+        let draft = Draft::with_types(vec![number_type.clone(), wide(many)]);
+        set.draft(format!("limit-variants-{many}"), &draft);
+    }
+    let full = VARIANTS_IN_ALL - 2 * VARIANTS_PER_TYPE;
+    for many in [full - 1, full, full + 1] {
+        let sixteen = wide(VARIANTS_PER_TYPE);
+        let types = vec![number_type.clone(), sixteen.clone(), wide(many), sixteen];
+        let total = many + 2 * VARIANTS_PER_TYPE;
+        set.draft(format!("limit-total-{total}"), &Draft::with_types(types));
+    }
+    // The total is asked under 4 at the type that breaks it, before its fields.
+    let types = vec![wide(15), wide(15), wide(15), wide(3), wide(1), number_type.clone()];
+    set.draft("limit-total-late", &Draft::with_types(types));
+    for many in [FIELDS, FIELDS + 1] {
+        let fields = Type {
+            variants: vec![vec![0; many]],
+        };
+        let draft = Draft::with_types(vec![number_type.clone(), fields]);
+        set.draft(format!("limit-fields-{many}"), &draft);
+    }
+    for many in [Limits::BASE.terms, Limits::BASE.terms + 1] {
+        let mut draft = Draft::with_types(vec![number_type.clone()]);
+        draft.variables(0, many);
+        set.draft(format!("limit-terms-{many}"), &draft);
+    }
+    for many in [Limits::BASE.lines, Limits::BASE.lines + 1] {
+        let mut draft = Draft::with_types(vec![number_type.clone()]);
+        let terms = draft.variables(0, 2);
+        for _ in 0..many {
+            draft.unequal(terms[0], terms[1]);
+        }
+        set.draft(format!("limit-lines-{many}"), &draft);
+    }
+}
+
+/// Every beginning of one file that holds each kind of row and line.
+fn prefixes(set: &mut Set) {
+    let mut draft = Draft::new(&[&[], &[&[], &[0, 1]], &[&[], &[]]]);
+    let x = draft.variable(1);
+    let c = draft.constant(0, 1_000_000);
+    let built = draft.built(1, 1, &[c, x]);
+    let tail = draft.read(x, 1, 1);
+    draft.equal(built, tail);
+    draft.unequal(x, tail);
+    draft.is(x, 1);
+    draft.isnt(built, 0);
+    let file = draft.bytes();
+    for length in 0..=file.len() {
+        set.add(format!("prefix-{length:02}"), USUAL_BUDGET, &file[..length]);
+    }
+}
+
+/// Accepted files with one byte changed, dropped or put in: any answer.
+fn chance(set: &mut Set) {
+    let mut random = Random::named("damaged");
+    let mut kept = 0;
+    while kept < 120 {
+        let mut file = whole(&mut random).bytes();
+        let at = random.below(file.len());
+        match random.below(4) {
+            0 => {
+                file.remove(at);
+            }
+            1 => file.insert(at, random.below(5) as u8),
+            2 => file[at] ^= 1 << random.below(8),
+            _ => file[at] = random.below(6) as u8,
+        }
+        // Long searches have their own family.
+        if !matches!(answer(&file, 300, Limits::BASE), Answer::Spent { .. }) {
+            set.add(format!("damaged-{kept:03}"), USUAL_BUDGET, &file);
+            kept += 1;
+        }
+    }
+    let mut longest = vec![0x06];
+    number::write(0, &mut longest);
+    longest.resize(2_000, 0x00);
+    set.add("damaged-zeros", USUAL_BUDGET, &longest);
+}

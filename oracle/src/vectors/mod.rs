@@ -1,0 +1,149 @@
+//! The test vectors: a fixed set of files with their expected answers.
+
+mod broken;
+mod cases;
+mod families;
+mod numbers;
+mod profiles;
+mod walks;
+
+use crate::answer::{answer, Answer};
+use crate::encode::Draft;
+use crate::guard::Limits;
+
+/// The budget of the program `guarddesk`.
+pub const USUAL_BUDGET: u32 = 1_000_000;
+
+const HEADER: &str = "\
+# Guard files with their expected answers, written by `oracle vectors`.
+# NAME, BUDGET, HEX and ANSWER, separated by single tabs; HEX is the file, - if empty.
+";
+
+#[derive(Clone, Debug, PartialEq, Eq)]
+pub struct Vector {
+    pub name: String,
+    pub budget: u32,
+    pub file: Vec<u8>,
+    pub answer: String,
+}
+
+/// A growing list of vectors.
+#[derive(Default)]
+struct Set(Vec<Vector>);
+
+impl Set {
+    fn add(&mut self, name: impl Into<String>, budget: u32, file: &[u8]) -> Answer {
+        let answer = answer(file, budget, Limits::BASE);
+        self.0.push(Vector {
+            name: name.into(),
+            budget,
+            file: file.to_vec(),
+            answer: answer.to_string(),
+        });
+        answer
+    }
+
+    fn draft(&mut self, name: impl Into<String>, draft: &Draft) -> Answer {
+        self.add(name, USUAL_BUDGET, &draft.bytes())
+    }
+}
+
+/// All vectors, family by family.
+pub fn all() -> Vec<Vector> {
+    let mut set = Set::default();
+    cases::add(&mut set);
+    numbers::add(&mut set);
+    broken::add(&mut set);
+    families::add(&mut set);
+    walks::add(&mut set);
+    profiles::add(&mut set);
+    set.0
+}
+
+/// The vectors as the text of `vectors.txt`.
+pub fn text(vectors: &[Vector]) -> String {
+    let mut text = HEADER.to_string();
+    for vector in vectors {
+        let hex = hex(&vector.file);
+        text += &format!("{}\t{}\t{hex}\t{}\n", vector.name, vector.budget, vector.answer);
+    }
+    text
+}
+
+/// Reads the text of `vectors.txt`.
+pub fn parse(text: &str) -> Result<Vec<Vector>, String> {
+    let lines = text.lines().enumerate();
+    lines
+        .filter(|(_, line)| !line.starts_with('#'))
+        .map(|(i, line)| parse_line(line).ok_or(format!("line {} isn't a vector", i + 1)))
+        .collect()
+}
+
+fn parse_line(line: &str) -> Option<Vector> {
+    let columns: Vec<&str> = line.split('\t').collect();
+    let [name, budget, hex, answer] = columns[..] else {
+        return None;
+    };
+    Some(Vector {
+        name: name.to_string(),
+        budget: budget.parse().ok()?,
+        file: unhex(hex)?,
+        answer: answer.to_string(),
+    })
+}
+
+/// "For each vector a 2-byte length, the bytes, a 4-byte budget; ended by a
+/// length of 65535"; all low byte first.
+pub fn pack(vectors: &[Vector]) -> Result<Vec<u8>, String> {
+    const END: u16 = u16::MAX;
+    let mut out = Vec::new();
+    for vector in vectors {
+        let length = u16::try_from(vector.file.len()).ok().filter(|&length| length != END);
+        let length = length.ok_or(format!("{} is too long to pack", vector.name))?;
+        out.extend(length.to_le_bytes());
+        out.extend(&vector.file);
+        out.extend(vector.budget.to_le_bytes());
+    }
+    out.extend(END.to_le_bytes());
+    Ok(out)
+}
+
+/// Where two texts first differ.
+pub fn first_difference(found: &str, expected: &str) -> Option<String> {
+    if found == expected {
+        return None;
+    }
+    let mut lines = found.lines().zip(expected.lines()).enumerate();
+    let place = lines.find(|(_, (found, expected))| found != expected);
+    Some(match place {
+        Some((i, (found, expected))) => {
+            format!("line {}: found {found:?}, expected {expected:?}", i + 1)
+        }
+        None => {
+            let counts = (found.lines().count(), expected.lines().count());
+            format!("{} lines found, {} expected, or another line end", counts.0, counts.1)
+        }
+    })
+}
+
+fn hex(bytes: &[u8]) -> String {
+    if bytes.is_empty() {
+        return "-".to_string();
+    }
+    bytes.iter().map(|byte| format!("{byte:02x}")).collect()
+}
+
+/// Reads bytes in hexadecimal; spaces are allowed.
+pub fn unhex(text: &str) -> Option<Vec<u8>> {
+    if text == "-" {
+        return Some(Vec::new());
+    }
+    let digits: Option<Vec<u32>> = text
+        .chars()
+        .filter(|digit| *digit != ' ')
+        .map(|digit| digit.to_digit(16))
+        .collect();
+    let digits = digits.filter(|digits| digits.len() % 2 == 0)?;
+    let byte = |pair: &[u32]| u8::try_from(16 * pair[0] + pair[1]).ok();
+    digits.chunks(2).map(byte).collect()
+}

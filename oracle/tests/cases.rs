@@ -1,0 +1,133 @@
+//! Document 01's cases by hand, with verdict and node count.
+
+use oracle::answer::{answer, answer_with_buffers, Answer};
+use oracle::guard::Limits;
+use oracle::read::Question;
+use oracle::vectors::unhex;
+
+const X: &str = "02 00 02 00 02 00 01 ";
+
+fn file(text: &str) -> Vec<u8> {
+    unhex(&text.replace("X ", X)).expect("hexadecimal")
+}
+
+fn given(text: &str, budget: u32) -> String {
+    answer(&file(text), budget, Limits::BASE).to_string()
+}
+
+const C: &str = "X 02 00 01 03 00 01 01 01 00 00 01";
+const H: &str = "01 02 00 00 03 00 00 00 00 00 00 03 01 00 01 01 00 02 01 01 02";
+
+#[test]
+fn cases_a_to_j() {
+    let cases = [
+        ("00 00 00", 1, "SAT 1"),
+        ("00 00 00", 0, "SPENT 0"),
+        (C, 3, "SAT 3"),
+        (C, 2, "SPENT 2"),
+        ("X 02 00 01 03 00 01 01 02 00 00 01 02 00 01", 1, "UNSAT 1"),
+        ("X 02 00 01 00 01 01 01 00 01", 1, "SAT 1"),
+        ("X 02 00 01 00 01 03 01 00 01 03 00 01 03 01 01", 1, "UNSAT 1"),
+        (H, 11, "UNSAT 11"),
+        (H, 10, "SPENT 10"),
+        ("01 00 02 01 00 05 01 00 08 01 00 00 01", 1, "UNSAT 1"),
+    ];
+    for (text, budget, expected) in cases {
+        assert_eq!(given(text, budget), expected, "{text} with {budget}");
+    }
+}
+
+#[test]
+fn case_k() {
+    let files = [
+        "",
+        "80 00",
+        "07",
+        "01 00 01 00 01",
+        "01 00 01 04",
+        "01 00 01 02 00",
+        "01 01 01 00",
+        "02 01 00 01 01 00",
+        "00 00 00 00",
+    ];
+    for (text, number) in files.iter().zip(2..) {
+        assert_eq!(given(text, 1), format!("REFUSED {number}"), "{text}");
+    }
+}
+
+#[test]
+fn buffers_come_first() {
+    let refused = Answer::Refused(Question::BuffersLongEnough);
+    let with = |file: &[u8], rows, places| answer_with_buffers(file, 1, Limits::BASE, rows, places);
+    assert_eq!(with(&[], 16_383, 24), refused);
+    assert_eq!(with(&[], 16_384, 23), refused);
+    assert_eq!(with(&[], 16_384, 24), Answer::Refused(Question::NumberEnds));
+    assert_eq!(with(&[0, 0, 0], 20_000, 30), Answer::Sat { nodes: 1 });
+}
+
+/// Two questions at one number, or two faults in one file.
+#[test]
+fn the_first_no_counts() {
+    let files = [
+        // The types lack a default, and the file stops after them.
+        ("01 01 01 00", "REFUSED 8"),
+        // Neither a default nor a field that can grow.
+        ("02 01 00 01 02 00 01", "REFUSED 8"),
+        // A finite field alone, and the file stops after the types.
+        ("02 01 00 01 01 00", "REFUSED 9"),
+        // A part that names no earlier row, which can't fit either.
+        ("X 01 02 01 01 00", "REFUSED 5"),
+        // A constant of a variant type, with its value missing.
+        ("X 01 01 01", "REFUSED 7"),
+        // The second term of another type, and no more bytes.
+        ("X 02 00 00 00 01 01 00 00 01", "REFUSED 7"),
+        // A number is tested for a variant that isn't there.
+        ("X 01 00 00 01 02 00 05", "REFUSED 7"),
+        // A wrong count in a wrong form.
+        ("87 00", "REFUSED 3"),
+        ("87", "REFUSED 2"),
+        // 16 + 16 + 16 variants, and one more.
+        ("04 10 00 00 00 00 00 00 00 00 00 00 00 00 00 00 00 00 \
+          10 00 00 00 00 00 00 00 00 00 00 00 00 00 00 00 00 \
+          10 00 00 00 00 00 00 00 00 00 00 00 00 00 00 00 00 01", "REFUSED 4"),
+    ];
+    for (text, expected) in files {
+        assert_eq!(given(text, 1), expected, "{text}");
+    }
+}
+
+/// The siblings of an absent variant stay free, and are split on.
+#[test]
+fn siblings_of_an_absent_variant_are_split_on() {
+    let text = "02 02 00 00 02 00 02 01 00 02 00 01 03 00 01 00 01 02 00 00";
+    assert_eq!(given(text, 2), "SAT 2");
+}
+
+/// "SPENT is given precisely if the walk would visit more nodes than the
+/// budget."
+#[test]
+fn budgets_around_the_node_count() {
+    for (text, verdict, nodes) in [("00 00 00", "SAT", 1), (C, "SAT", 3), (H, "UNSAT", 11)] {
+        for budget in 0..20 {
+            let expected = if budget < nodes {
+                format!("SPENT {budget}")
+            } else {
+                format!("{verdict} {nodes}")
+            };
+            assert_eq!(given(text, budget), expected, "{text} with {budget}");
+        }
+        assert_eq!(given(text, u32::MAX), format!("{verdict} {nodes}"));
+    }
+}
+
+#[test]
+fn limits_are_a_parameter() {
+    let small = Limits { types: 1, terms: 2, lines: 1 };
+    let given = |text: &str| answer(&file(text), 100, small).to_string();
+    assert_eq!(given("02 00 00 00 00"), "REFUSED 4");
+    assert_eq!(given("01 00 03 00 00 00 00 00 00 00"), "REFUSED 4");
+    assert_eq!(given("01 00 02 00 00 00 00 02"), "REFUSED 4");
+    assert_eq!(given("01 00 02 00 00 00 00 01 01 00 01"), "SAT 1");
+    // nil or cons(list): x is its own tail, and isn't nil.
+    assert_eq!(given("01 02 00 01 00 02 00 00 03 00 01 00 01 00 00 01"), "SAT 3");
+}

@@ -1,0 +1,119 @@
+//! The command line: what it prints, and that wrong use never panics.
+
+use std::fs;
+use std::io::Write;
+use std::path::PathBuf;
+use std::process::{Command, Output, Stdio};
+
+fn oracle(words: &[&str], input: &[u8]) -> Output {
+    let mut child = Command::new(env!("CARGO_BIN_EXE_oracle"))
+        .args(words)
+        .stdin(Stdio::piped())
+        .stdout(Stdio::piped())
+        .stderr(Stdio::piped())
+        .spawn()
+        .expect("the program starts");
+    // The program may stop before it has read its input.
+    let _ = child.stdin.take().expect("piped").write_all(input);
+    child.wait_with_output().expect("the program ends")
+}
+
+fn printed(output: &Output) -> String {
+    String::from_utf8_lossy(&output.stdout).into_owned()
+}
+
+fn scratch(name: &str) -> PathBuf {
+    let dir = PathBuf::from(env!("CARGO_TARGET_TMPDIR")).join(name);
+    fs::create_dir_all(&dir).expect("a directory for the test");
+    dir
+}
+
+const C: &[u8] = &[2, 0, 2, 0, 2, 0, 1, 2, 0, 1, 3, 0, 1, 1, 1, 0, 0, 1];
+
+#[test]
+fn answers() {
+    let cases: [(&[&str], &[u8], &str); 6] = [
+        (&["answer", "-"], C, "SAT 3\n"),
+        (&["answer", "-", "--budget", "2"], C, "SPENT 2\n"),
+        (&["answer", "-", "--budget", "4294967295"], C, "SAT 3\n"),
+        (&["answer", "-"], &[], "REFUSED 2\n"),
+        (&["answer", "-"], &[0; 5_000], "REFUSED 10\n"),
+        (&["answer", "-"], &[0x80; 5_000], "REFUSED 3\n"),
+    ];
+    for (words, input, expected) in cases {
+        let output = oracle(words, input);
+        assert_eq!(printed(&output), expected);
+        assert_eq!(output.status.code(), Some(0));
+    }
+}
+
+#[test]
+fn checks_printed_answers() {
+    let dir = scratch("check");
+    let (file, right, wrong) = (dir.join("c"), dir.join("right"), dir.join("wrong"));
+    let text = "SAT 3\nrow 0 type 1 variant 0\nterm 0 row 0\nterm 1 row 0\n";
+    fs::write(&file, C).expect("written");
+    fs::write(&right, text).expect("written");
+    fs::write(&wrong, [0xff, 0xfe, 0x0a]).expect("written");
+    let (file, right) = (file.display().to_string(), right.display().to_string());
+    let output = oracle(&["check", &file, &right], &[]);
+    assert_eq!((printed(&output), output.status.code()), ("ok\n".to_string(), Some(0)));
+    let output = oracle(&["check", &file, "-"], text.replace("SAT 3", "SAT 2").as_bytes());
+    assert_eq!(output.status.code(), Some(1));
+    assert!(String::from_utf8_lossy(&output.stderr).contains("expected SAT 3"));
+    let output = oracle(&["check", &file, &right, "--budget", "2"], &[]);
+    assert_eq!(output.status.code(), Some(1));
+    let output = oracle(&["check", &file, &wrong.display().to_string()], &[]);
+    assert_eq!(output.status.code(), Some(1));
+}
+
+#[test]
+fn wrong_use_is_said() {
+    let cases: [&[&str]; 14] = [
+        &[],
+        &["nonsense"],
+        &["answer"],
+        &["answer", "no such file"],
+        &["answer", "."],
+        &["answer", "-", "--budget"],
+        &["answer", "-", "--budget", "-1"],
+        &["answer", "-", "--budget", "4294967296"],
+        &["answer", "-", "--budget", "many"],
+        &["answer", "-", "--limit", "1"],
+        &["check", "-", "-"],
+        &["check", "-", "no such file"],
+        &["vectors", "--check", "no such directory"],
+        &["pack", "no such file", "out"],
+    ];
+    for words in cases {
+        let output = oracle(words, &[0, 0, 0]);
+        let said = String::from_utf8_lossy(&output.stderr).into_owned();
+        assert_eq!(output.status.code(), Some(2), "{words:?}: {said}");
+        assert!(said.starts_with("oracle: "), "{words:?}: {said}");
+        assert!(printed(&output).is_empty(), "{words:?}");
+    }
+}
+
+#[test]
+fn smt_scripts_are_for_accepted_guards() {
+    let script = printed(&oracle(&["smt", "-"], C));
+    assert!(script.starts_with("(set-logic ALL)\n"));
+    assert!(script.contains("(ite ((_ is c1_1) t0) (f1_1_1 t0) c1_0)"));
+    assert!(script.ends_with("(check-sat)\n"));
+    assert_eq!(oracle(&["smt", "-"], &[7]).status.code(), Some(1));
+}
+
+#[test]
+fn packs_vectors() {
+    let dir = scratch("pack");
+    let (vectors, out) = (dir.join("vectors.txt"), dir.join("packed"));
+    fs::write(&vectors, "# a comment\nx\t258\t000000\tSAT 1\ny\t0\t-\tREFUSED 2\n").expect("written");
+    let words = ["pack", &vectors.display().to_string(), &out.display().to_string()];
+    assert_eq!(oracle(&words, &[]).status.code(), Some(0));
+    let expected = [3, 0, 0, 0, 0, 2, 1, 0, 0, 0, 0, 0, 0, 0, 0, 255, 255];
+    assert_eq!(fs::read(&out).expect("packed"), expected);
+    for bad in ["x 1 00 SAT 1\n", "x\t-1\t00\tSAT 1\n", "x\t1\t0\tSAT 1\n", "x\t1\t0g\tSAT 1\n", "\n"] {
+        fs::write(&vectors, bad).expect("written");
+        assert_eq!(oracle(&words, &[]).status.code(), Some(1), "{bad:?}");
+    }
+}
