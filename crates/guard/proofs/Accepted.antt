@@ -11,7 +11,7 @@ use mathlib.Core.Bool.{_&&_, false, not, true, false≢true}
 use lib.Seq.{getD-append-seam}
 use mathlib.Core.Option.{none, some}
 use Rattle.laws.specs.All.{All, All.more, All.none}
-use Rattle.laws.specs.Lists.{all, last}
+use Rattle.laws.specs.Lists.{all}
 use Rattle.laws.proofs.Bools.{and-left, and-right, by-test}
 use Rattle.laws.proofs.Lists.{all-mem, map-cong, map-from-length}
 use Rattle.guard.specs.File.{count, ended, file, kind, literal, literalOf, name, parts, rowOf, rows, termAndVariant, twoTerms, types, variant, variantTerm}

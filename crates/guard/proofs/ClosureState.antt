@@ -18,7 +18,6 @@ use Rattle.laws.proofs.Lists.{all-of, all-weaken, filter-none}
 use Rattle.laws.proofs.Stores.{ends, set-ind, set-same}
 use Rattle.guard.specs.Closure.{Fact, Fact.same, Fact.within, State, add, begin, classOf, closureOf, consequences, fresh, given, holds, initial, labelOf, merge, mergeUnless, rename, sameClass, saturate, size}
 use Rattle.guard.specs.Guard.{Literal}
-use Rattle.guard.specs.Search.{W}
 use Rattle.guard.specs.Terms.{Table, termCount}
 use Rattle.guard.proofs.ClosureBelow.{rename-at}
 use Rattle.guard.proofs.ClosureEnds.{adds-ind, closed-under, saturate-ind}

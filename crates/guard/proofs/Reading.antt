@@ -130,8 +130,8 @@ reads-groups (suc k) = step (reads-groups k)
     step ih [] gs rest e = absurd (not-accepted 2 gs rest e)
     step ih (b ∷ bs) gs rest e = pick (ltb b 128) e
       where
-        more : Reads (groups k >>= λ gs. return (b ∷ gs)) (λ gs u. (length gs ≡ suc u) × (u ≤ k))
-        more =
+        longer : Reads (groups k >>= λ gs. return (b ∷ gs)) (λ gs u. (length gs ≡ suc u) × (u ≤ k))
+        longer =
             reads-bind (groups k) _ (λ gs u. (length gs ≡ u) × (u ≤ k)) (λ gs u. (length gs ≡ suc u) × (u ≤ k)) ih
             (λ gs u h. reads-return (b ∷ gs) (λ gs w. (length gs ≡ suc (u + w)) × (u + w ≤ k)) (omega (arith, h .0), omega (arith, h .1)))
 
@@ -141,7 +141,7 @@ reads-groups (suc k) = step (reads-groups k)
             let r : bs ≡ rest = cc in
             let g : b ∷ [] ≡ gs = cc in
             (1, omega (arith, ap length r), (omega (arith, ap length g), omega arith))
-        pick false q = let (u, l, h) = more bs gs rest q in (suc u, omega (arith, l), (h .0, omega (arith, h .1)))
+        pick false q = let (u, l, h) = longer bs gs rest q in (suc u, omega (arith, l), (h .0, omega (arith, h .1)))
 
 pub reads-unsigned : Reads unsigned (λ n u. (n ≤ width32 .most) × (u ≤ 5) × (n < 128 → u ≤ 1))
 reads-unsigned =
