@@ -16,7 +16,7 @@ use Rattle.laws.proofs.Bools.{and-left, and-right, by-test}
 use Rattle.laws.proofs.Lists.{all-mem, map-cong, map-from-length}
 use Rattle.guard.specs.File.{count, ended, file, kind, literal, literalOf, name, parts, rowOf, rows, termAndVariant, twoTerms, types, variant, variantTerm}
 use Rattle.guard.specs.Guard.{Guard, Literal, Literal.equal, Literal.is, Literal.isnt, Literal.unequal, Row, Row.built, Row.constant, Row.field, Row.variable, noRow, rowAt, typeAt, typeOf}
-use Rattle.guard.specs.Limits.{Limits, Supported, base, fieldLimit, totalVariantLimit, variantLimit}
+use Rattle.guard.specs.Limits.{Limits, Supported, fieldLimit, totalVariantLimit, variantLimit}
 use Rattle.guard.specs.Message.{Message}
 use Rattle.guard.specs.Number.{Parsed.accepted, _>>_, ask, return, times, unfoldSigned, unsigned, width32}
 use Rattle.guard.specs.Terms.{termCount}
@@ -286,7 +286,3 @@ accepted-ended limits =
 pub accepted-length : (limits : Limits) → Supported limits → (bytes : List ℕ) (g : Guard) (rest : List ℕ) → file limits bytes ≡ accepted g rest → length bytes ≤ longestFile limits
 unfolding Reads
 accepted-length limits sup bytes g rest e = let (u, l, h) = reads-file limits sup bytes g rest e in omega (arith, l, h .1, ap length (accepted-ended limits bytes g rest e))
-
--- "No accepted file is longer than 465 bytes."
-pub at-most-465 : (bytes : List ℕ) (g : Guard) (rest : List ℕ) → file base bytes ≡ accepted g rest → length bytes ≤ 465
-at-most-465 bytes g rest e = accepted-length base (record { types = omega arith; terms = omega arith; lines = omega arith }) bytes g rest e

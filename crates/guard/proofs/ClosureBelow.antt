@@ -4,7 +4,7 @@ use mathlib.Core.Path.{_≡_, refl, ap, sym, subst}
 use mathlib.Core.Bool.{Bool, true, false, not, _&&_, cond, false≢true}
 use mathlib.Core.List.{List, [], _∷_, foldl, List·Memᴰ, List·Memᴰ·head, List·Memᴰ·tail}
 use mathlib.Core.Logic.{_⊎_, inl, inr}
-use Prim.Native.Nat.{ℕ, zero, suc, _-_, _^_, _≤_, _<_, min, max}
+use Prim.Native.Nat.{ℕ, zero, suc, _^_, _≤_, _<_, min, max}
 use native.Mathlib.Omega.{arith}
 use lib.Dec.{eqb}
 use lib.Bits.{bitAnd}
@@ -18,7 +18,7 @@ use Rattle.laws.proofs.Bits.{and-missing, bit-but, bit-ones, bit-own, bit-pow, 
 use Rattle.laws.proofs.Bools.{and-left, and-right, cond-ind, or-cases}
 use Rattle.laws.proofs.Lists.{all-append, all-concatMap, all-filter, all-map, all-mem, all-of, all-when, any-some, from-at}
 use Rattle.laws.proofs.Stores.{ends, set-cases}
-use Rattle.guard.specs.Closure.{Fact, Fact.same, Fact.within, LacksAt, SameAt, State, add, allVariants, alone, begin, buildsAt, builtRows, classOf, closureOf, consequences, constants, eqZ, fresh, given, holds, initial, labelOf, lacks, merge, mergeUnless, ofLiteral, oneVariant, pairwise, readAbsent, readBuild, reads, rename, sameAll, sameClass, sameClasses, saturate, single, size}
+use Rattle.guard.specs.Closure.{Fact, Fact.same, Fact.within, LacksAt, SameAt, State, add, allVariants, alone, begin, buildsAt, builtRows, classOf, closureOf, consequences, constants, eqZ, everyVariant, fresh, given, holds, initial, labelOf, lacks, merge, mergeUnless, ofLiteral, oneVariant, pairwise, readAbsent, readBuild, reads, rename, sameAll, sameClass, sameClasses, saturate, single, size}
 use Rattle.guard.specs.File.{parts, types, variant}
 use Rattle.guard.specs.Guard.{Literal, Literal.equal, Literal.is, Literal.isnt, Literal.unequal, Row.built}
 use Rattle.guard.specs.Limits.{variantLimit}
@@ -76,11 +76,11 @@ module _ (t : Table) (ls : List Literal) (ranged : InRange t) (literalsIn : Lite
   pub record Sound (s : State) : Type 0 where
     pub range : (i : ℕ) → i < termCount → classOf s i < termCount
     pub class : (i : ℕ) → i < termCount → Same i (classOf s i)
-    pub label : (c v : ℕ) → c < termCount → v < 16 → bit (getD (s .labels) c 0) v ≡ 0 → Lacks c v
+    pub label : (c v : ℕ) → c < termCount → v < variantLimit → bit (getD (s .labels) c 0) v ≡ 0 → Lacks c v
 
   data Valid : Fact → Type 0 where
     same-valid : {i j : ℕ} → i < termCount → j < termCount → Same i j → Valid (same i j)
-    within-valid : {i m : ℕ} → i < termCount → ((v : ℕ) → v < 16 → bit m v ≡ 0 → Lacks i v) → Valid (within i m)
+    within-valid : {i m : ℕ} → i < termCount → ((v : ℕ) → v < variantLimit → bit m v ≡ 0 → Lacks i v) → Valid (within i m)
 
   module _ (s : State) (ok : Sound s) where
     same-valid-at : (i j : ℕ) → i < termCount → j < termCount → SameAt s i j → Same i j
@@ -90,7 +90,7 @@ module _ (t : Table) (ls : List Literal) (ranged : InRange t) (literalsIn : Lite
     alike-same : (i j : ℕ) → i < termCount → j < termCount → sameClass s i j ≡ true → Same i j
     alike-same i j hi hj e = same-valid-at i j hi hj (eqb-true _ _ e)
 
-    lacks-valid : (i v : ℕ) → i < termCount → v < 16 → bit (labelOf s i) v ≡ 0 → Lacks i v
+    lacks-valid : (i v : ℕ) → i < termCount → v < variantLimit → bit (labelOf s i) v ≡ 0 → Lacks i v
     lacks-valid i v hi hv e = o .shared (o .back (ok .class i hi)) (ok .label (classOf s i) v (ok .range i hi) hv e)
 
     cut-sound : (i m : ℕ) → Valid (within i m) → Sound (add s (within i m))
@@ -100,11 +100,11 @@ module _ (t : Table) (ls : List Literal) (ranged : InRange t) (literalsIn : Lite
         L : List ℕ
         L = set (s .labels) (classOf s i) (bitAnd (labelOf s i) m)
 
-        consBoth : (v : ℕ) → v < 16 → (bit (labelOf s i) v ≡ 0) ⊎ (bit m v ≡ 0) → Lacks (classOf s i) v
+        consBoth : (v : ℕ) → v < variantLimit → (bit (labelOf s i) v ≡ 0) ⊎ (bit m v ≡ 0) → Lacks (classOf s i) v
         consBoth v hv (inl e) = ok .label (classOf s i) v (ok .range i hi) hv e
         consBoth v hv (inr e) = o .shared (ok .class i hi) (f v hv e)
 
-        go : (c v : ℕ) → c < termCount → v < 16 → (getD L c 0 ≡ getD (s .labels) c 0) ⊎ ((c ≡ classOf s i) × (getD L c 0 ≡ bitAnd (labelOf s i) m)) → bit (getD L c 0) v ≡ 0 → Lacks c v
+        go : (c v : ℕ) → c < termCount → v < variantLimit → (getD L c 0 ≡ getD (s .labels) c 0) ⊎ ((c ≡ classOf s i) × (getD L c 0 ≡ bitAnd (labelOf s i) m)) → bit (getD L c 0) v ≡ 0 → Lacks c v
         go c v hc hv (inl q) e = ok .label c v hc hv (rw q at e)
         go c v hc hv (inr q) e = subst (λ (x : ℕ). Lacks x v) (sym (q .0)) (consBoth v hv (and-missing (labelOf s i) m v (rw (q .1) at e)))
 
@@ -155,14 +155,14 @@ module _ (t : Table) (ls : List Literal) (ranged : InRange t) (literalsIn : Lite
         moved : (k : ℕ) → k < termCount → getD (s .classes) k 0 ≡ high → Same k low
         moved k hk q = o .through (subst (λ (x : ℕ). Same k x) q (ok .class k hk)) (o .back (low-high c d c-d))
 
-        consBoth : (v : ℕ) → v < 16 → (bit (getD (s .labels) c 0) v ≡ 0) ⊎ (bit (getD (s .labels) d 0) v ≡ 0) → Lacks low v
+        consBoth : (v : ℕ) → v < variantLimit → (bit (getD (s .labels) c 0) v ≡ 0) ⊎ (bit (getD (s .labels) d 0) v ≡ 0) → Lacks low v
         consBoth v hv (inl q) = o .shared c-low (ok .label c v (ok .range i hi) hv q)
         consBoth v hv (inr q) = o .shared c-low (o .shared (o .back c-d) (ok .label d v (ok .range j hj) hv q))
 
         L : List ℕ
         L = set (s .labels) low (bitAnd (getD (s .labels) c 0) (getD (s .labels) d 0))
 
-        labels : (k v : ℕ) → k < termCount → v < 16 → (getD L k 0 ≡ getD (s .labels) k 0) ⊎ ((k ≡ low) × (getD L k 0 ≡ bitAnd (getD (s .labels) c 0) (getD (s .labels) d 0))) → bit (getD L k 0) v ≡ 0 → Lacks k v
+        labels : (k v : ℕ) → k < termCount → v < variantLimit → (getD L k 0 ≡ getD (s .labels) k 0) ⊎ ((k ≡ low) × (getD L k 0 ≡ bitAnd (getD (s .labels) c 0) (getD (s .labels) d 0))) → bit (getD L k 0) v ≡ 0 → Lacks k v
         labels k v hk hv (inl q) z = ok .label k v hk hv (rw q at z)
         labels k v hk hv (inr q) z = subst (λ (x : ℕ). Lacks x v) (sym (q .0)) (consBoth v hv (and-missing (getD (s .labels) c 0) (getD (s .labels) d 0) v (rw (q .1) at z)))
 
@@ -183,7 +183,7 @@ module _ (t : Table) (ls : List Literal) (ranged : InRange t) (literalsIn : Lite
     abbrev In : ℕ → Type 0
     In p = p < termCount
 
-    alone-valid : (i v : ℕ) → i < termCount → v < 16 → alone s i v ≡ true → Alone Lacks i v
+    alone-valid : (i v : ℕ) → i < termCount → v < variantLimit → alone s i v ≡ true → Alone Lacks i v
     alone-valid i v hi hv e u hu n = lacks-valid s ok i u hi hu (go (or-cases (eqb (labelOf s i) (2 ^ v)) (eqb (labelOf s i) 0) e))
       where
         go : (eqb (labelOf s i) (2 ^ v) ≡ true) ⊎ (eqb (labelOf s i) 0 ≡ true) → bit (labelOf s i) u ≡ 0
@@ -286,14 +286,15 @@ module _ (t : Table) (ls : List Literal) (ranged : InRange t) (literalsIn : Lite
       (o .constants a b ma mb (eqb-true _ _ (and-left (eqb (a .type) (b .type)) _ e)) (eqZ-true (a .value) (b .value) (and-right (eqb (a .type) (b .type)) _ e)))) none)
 
   -- a label cut to one variant
-  only : (i v : ℕ) → i < termCount → v < 16 → Alone Lacks i v → Valid (within i (2 ^ v))
-  only i v hi hv f = within-valid hi (λ u hu e. f u hu (λ q. absurd (omega (arith, bit-own v hv, subst (λ (x : ℕ). bit (2 ^ v) x ≡ 0) q e))))
+  only : (i v : ℕ) → i < termCount → v < variantLimit → Alone Lacks i v → Valid (within i (2 ^ v))
+  only i v hi hv f =
+      within-valid hi (λ u hu e. f u hu (λ q. let z : bit (2 ^ v) v ≡ 0 = subst (λ (x : ℕ). bit (2 ^ v) x ≡ 0) q e in absurd (omega (arith, bit-own v hv))))
 
-  line-valid : (l : Literal) → List·Memᴰ l ls → All Valid (ofLiteral l)
-  line-valid (equal i j) m = more (same-valid (literalsIn (equal i j) m .0) (literalsIn (equal i j) m .1) (asserted .equalLiteral i j m)) none
-  line-valid (unequal i j) m = none
-  line-valid (is i v) m = more (only i v (literalsIn (is i v) m .0) (literalsIn (is i v) m .1) (asserted .isLiteral i v m)) none
-  line-valid (isnt i v) m =
+  literal-valid : (l : Literal) → List·Memᴰ l ls → All Valid (ofLiteral l)
+  literal-valid (equal i j) m = more (same-valid (literalsIn (equal i j) m .0) (literalsIn (equal i j) m .1) (asserted .equalLiteral i j m)) none
+  literal-valid (unequal i j) m = none
+  literal-valid (is i v) m = more (only i v (literalsIn (is i v) m .0) (literalsIn (is i v) m .1) (asserted .isLiteral i v m)) none
+  literal-valid (isnt i v) m =
       more (within-valid (literalsIn (isnt i v) m .0)
       (λ u hu e. subst (λ (x : ℕ). Lacks i x) (sym (bit-but v u (literalsIn (isnt i v) m .1) hu e)) (asserted .isntLiteral i v m))) none
 
@@ -302,7 +303,7 @@ module _ (t : Table) (ls : List Literal) (ranged : InRange t) (literalsIn : Lite
       all-append (all-append (all-append
       (all-map (allVariants (t .types)) (t .terms) (λ x m. within-valid (ranged .terms x m .0) (λ v hv e. o .beyond x v m (bit-ones (length (variantsOf (t .types) (x .type))) v (omega (arith, ranged .terms x m .1)) hv e))))
       (all-map oneVariant (t .builds) (λ b m. only (b .term) (b .variant) (ranged .builds b m .0) (ranged .builds b m .1) (o .built b m))))
-      (all-pairwise constants (t .consts) const-valid)) (all-concatMap ofLiteral ls line-valid)
+      (all-pairwise constants (t .consts) const-valid)) (all-concatMap ofLiteral ls literal-valid)
 
   initial-sound : Sound initial
   unfolding initial
@@ -310,7 +311,7 @@ module _ (t : Table) (ls : List Literal) (ranged : InRange t) (literalsIn : Lite
       record {
         range = λ i hi. omega (arith, from-at termCount 0 i 0 hi);
         class = λ i hi. let e : i ≡ classOf initial i = omega (arith, from-at termCount 0 i 0 hi) in subst (λ (x : ℕ). Same i x) e (o .itself i);
-        label = λ c v hc hv e. absurd (omega (arith, bit-ones 16 v (omega arith) hv (rw (getD-replicate termCount c (2 ^ 16 - 1) 0 hc) at e)));
+        label = λ c v hc hv e. absurd (omega (arith, bit-ones variantLimit v (omega arith) hv (rw (getD-replicate termCount c everyVariant 0 hc) at e)));
       }
 
   begin-sound : Sound (begin t ls)

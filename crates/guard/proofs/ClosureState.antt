@@ -4,7 +4,7 @@ use mathlib.Core.Path.{_≡_, refl, ap, sym, _∙_, subst}
 use mathlib.Core.Bool.{Bool, true, false, not, cond}
 use mathlib.Core.List.{List, [], _∷_, foldl}
 use mathlib.Core.Logic.{_⊎_, inl, inr}
-use Prim.Native.Nat.{ℕ, _-_, _^_, _<_, min, max}
+use Prim.Native.Nat.{ℕ, _^_, _<_, min, max}
 use native.Mathlib.Omega.{arith}
 use lib.Dec.{leb, eqb}
 use lib.Bits.{bitAnd, and-le-l}
@@ -16,8 +16,9 @@ use Rattle.laws.proofs.Bits.{bit-and, bit-zero}
 use Rattle.laws.proofs.Bools.{cond-ind}
 use Rattle.laws.proofs.Lists.{all-of, all-weaken, filter-none}
 use Rattle.laws.proofs.Stores.{ends, set-ind, set-same}
-use Rattle.guard.specs.Closure.{Fact, Fact.same, Fact.within, State, add, begin, classOf, closureOf, consequences, fresh, given, holds, initial, labelOf, merge, mergeUnless, rename, sameClass, saturate, size}
+use Rattle.guard.specs.Closure.{Fact, Fact.same, Fact.within, State, add, begin, classOf, closureOf, consequences, everyVariant, fresh, given, holds, initial, labelOf, merge, mergeUnless, rename, sameClass, saturate, size}
 use Rattle.guard.specs.Guard.{Literal}
+use Rattle.guard.specs.Limits.{variantLimit}
 use Rattle.guard.specs.Terms.{Table, termCount}
 use Rattle.guard.proofs.ClosureBelow.{rename-at}
 use Rattle.guard.proofs.ClosureEnds.{adds-ind, closed-under, saturate-ind}
@@ -158,10 +159,10 @@ holds-rules t ls =
 
 -- ---- labels are masks of 16 bits
 unfoldable pub Small : State → Type 0
-Small s = (c : ℕ) → getD (s .labels) c 0 < 2 ^ 16
+Small s = (c : ℕ) → getD (s .labels) c 0 < 2 ^ variantLimit
 
-small-set : (l : List ℕ) → ((c : ℕ) → getD l c 0 < 2 ^ 16) → (i v : ℕ) → v < 2 ^ 16 → (c : ℕ) → getD (set l i v) c 0 < 2 ^ 16
-small-set l h i v hv c = set-ind (λ x. x < 2 ^ 16) l i v c (omega arith) (λ q. hv) (h c)
+small-set : (l : List ℕ) → ((c : ℕ) → getD l c 0 < 2 ^ variantLimit) → (i v : ℕ) → v < 2 ^ variantLimit → (c : ℕ) → getD (set l i v) c 0 < 2 ^ variantLimit
+small-set l h i v hv c = set-ind (λ x. x < 2 ^ variantLimit) l i v c (omega arith) (λ q. hv) (h c)
 
 add-small : (s : State) → Small s → (f : Fact) → Small (add s f)
 unfolding Small
@@ -174,7 +175,7 @@ add-small s h (same i j) = go (sameClass s i j)
     d : ℕ
     d = classOf s j
 
-    go : (b : Bool) → (k : ℕ) → getD ((mergeUnless b s c d) .labels) k 0 < 2 ^ 16
+    go : (b : Bool) → (k : ℕ) → getD ((mergeUnless b s c d) .labels) k 0 < 2 ^ variantLimit
     go true = h
     go false = small-set (s .labels) h (min c d) (bitAnd (getD (s .labels) c 0) (getD (s .labels) d 0)) (omega (arith, and-le-l (getD (s .labels) c 0) (getD (s .labels) d 0), h c))
 
@@ -182,9 +183,9 @@ initial-small : Small initial
 unfolding Small initial
 initial-small c = go (leb termCount c) refl
   where
-    go : (b : Bool) → leb termCount c ≡ b → getD (replicate termCount (2 ^ 16 - 1)) c 0 < 2 ^ 16
-    go true e = rw (List·getD-eq-default (replicate termCount (2 ^ 16 - 1)) 0 (leb-true termCount c e)) (omega arith)
-    go false e = rw (getD-replicate termCount c (2 ^ 16 - 1) 0 (leb-false termCount c e)) (omega arith)
+    go : (b : Bool) → leb termCount c ≡ b → getD (replicate termCount everyVariant) c 0 < 2 ^ variantLimit
+    go true e = rw (List·getD-eq-default (replicate termCount everyVariant) 0 (leb-true termCount c e)) (omega arith)
+    go false e = rw (getD-replicate termCount c everyVariant 0 (leb-false termCount c e)) (omega arith)
 
 pub closure-masks : (t : Table) (ls : List Literal) → Small (closureOf t ls)
 unfolding closureOf
@@ -192,7 +193,7 @@ closure-masks t ls =
     saturate-ind t Small (λ s h. adds-ind Small (λ s′ f h′. add-small s′ h′ f) (fresh t s) s h) (size (begin t ls)) (begin t ls)
     (adds-ind Small (λ s′ f h′. add-small s′ h′ f) (given t ls) initial initial-small)
 
-pub closure-small : (t : Table) (ls : List Literal) (i : ℕ) → labelOf (closureOf t ls) i < 2 ^ 16
+pub closure-small : (t : Table) (ls : List Literal) (i : ℕ) → labelOf (closureOf t ls) i < 2 ^ variantLimit
 unfolding Small
 closure-small t ls i = closure-masks t ls (classOf (closureOf t ls) i)
 

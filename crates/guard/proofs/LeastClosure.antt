@@ -14,9 +14,10 @@ use Rattle.laws.specs.Lists.{concatMap, when}
 use Rattle.laws.proofs.Bits.{bit-pow, but-own, one-set, ones-past}
 use Rattle.laws.proofs.Bools.{and-both, or-left, or-right}
 use Rattle.laws.proofs.Lists.{all-left, all-map-inv, all-right, any-of, concatMap-inv, mem-concatMap, when-inv}
-use Rattle.guard.specs.Closure.{Fact, Fact.same, Fact.within, LacksAt, SameAt, State, allVariants, alone, buildsAt, builtRows, classOf, closureOf, consequences, constants, eqZ, given, holds, labelOf, lacks, ofLiteral, oneVariant, pairwise, readAbsent, readBuild, reads, sameAll, sameClass, sameClasses, single}
+use Rattle.guard.specs.Closure.{Fact, Fact.same, Fact.within, LacksAt, SameAt, State, allVariants, alone, buildsAt, builtRows, classOf, closureOf, consequences, constants, eqZ, everyVariant, given, holds, labelOf, lacks, ofLiteral, oneVariant, pairwise, readAbsent, readBuild, reads, sameAll, sameClass, sameClasses, single}
 use Rattle.guard.specs.File.{parts, types, variant}
 use Rattle.guard.specs.Guard.{Literal, Literal.equal, Literal.is, Literal.isnt, Row.built}
+use Rattle.guard.specs.Limits.{variantLimit}
 use Rattle.guard.specs.Rules.{AllSame, Alone, BuiltAt, BuiltAt.read, BuiltAt.row, LeastClosure, ObeysLiterals, ObeysRules}
 use Rattle.guard.specs.Terms.{Build, Const, Read, Table, Term, asBuild, fieldless}
 use Rattle.guard.specs.Types.{variantsOf}
@@ -31,9 +32,9 @@ eqZ-of a b e = subst (λ (z : ℤ). eqZ a z ≡ true) e (go a)
     go (negsuc n) = eq-eqb n n refl
 
 -- the converse of the test `alone`
-alone-of : (s : State) → Small s → (i v : ℕ) → ((u : ℕ) → u < 16 → ¬ (u ≡ v) → bit (labelOf s i) u ≡ 0) → alone s i v ≡ true
+alone-of : (s : State) → Small s → (i v : ℕ) → ((u : ℕ) → u < variantLimit → ¬ (u ≡ v) → bit (labelOf s i) u ≡ 0) → alone s i v ≡ true
 unfolding Small
-alone-of s h i v f = go (one-set 16 v (labelOf s i) (h (classOf s i)) f)
+alone-of s h i v f = go (one-set variantLimit v (labelOf s i) (h (classOf s i)) f)
   where
     go : (labelOf s i ≡ 0) ⊎ (labelOf s i ≡ 2 ^ v) → alone s i v ≡ true
     go (inl e) = or-right (eqb (labelOf s i) (2 ^ v)) (eqb (labelOf s i) 0) (eq-eqb _ _ e)
@@ -222,7 +223,7 @@ module _ (t : Table) (ls : List Literal) (ranged : InRange t) (literalsIn : Lite
       go (after h) = sym (one b a (sym et) (sym ev) h)
       go (identical e) = ap (λ (z : Const). classOf S (z .term)) e
 
-  only-say : (i v : ℕ) → v < 16 → Says S (within i (2 ^ v)) → Alone (LacksAt S) i v
+  only-say : (i v : ℕ) → v < variantLimit → Says S (within i (2 ^ v)) → Alone (LacksAt S) i v
   only-say i v hv e u hu n = cut i (2 ^ v) e u (bit-pow v u hv hu n)
 
   is-literal : (i v : ℕ) → List·Memᴰ (Literal.is i v) ls → Alone (LacksAt S) i v
@@ -234,8 +235,8 @@ module _ (t : Table) (ls : List Literal) (ranged : InRange t) (literalsIn : Lite
   isnt-literal : (i v : ℕ) → List·Memᴰ (Literal.isnt i v) ls → LacksAt S i v
   isnt-literal i v m = go (literals-say (Literal.isnt i v) m)
     where
-      go : All (Says S) (within i (2 ^ 16 - 1 - 2 ^ v) ∷ []) → LacksAt S i v
-      go (more e es) = cut i (2 ^ 16 - 1 - 2 ^ v) e v (but-own v (literalsIn (isnt i v) m .1))
+      go : All (Says S) (within i (everyVariant - 2 ^ v) ∷ []) → LacksAt S i v
+      go (more e es) = cut i (everyVariant - 2 ^ v) e v (but-own v (literalsIn (isnt i v) m .1))
 
   rules′ : ObeysRules t (SameAt S) (LacksAt S)
   rules′ =

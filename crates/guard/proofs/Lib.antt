@@ -9,3 +9,4 @@ pub mod TableLaws
 pub mod NodeLaws
 pub mod SearchLaws
 pub mod AnswerLaws
+pub mod Claims

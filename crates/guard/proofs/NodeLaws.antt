@@ -8,14 +8,14 @@ use mathlib.Core.Logic.{_⊎_, inl, inr}
 use Prim.Native.Nat.{ℕ, _≤_, _<_, _^_}
 use native.Mathlib.Omega.{arith}
 use lib.ListN.{length, getD}
-use borrow.Author.Tests.{eqb-false, ne-eqb, leb-true, not-true}
-use lib.Dec.{leb}
+use borrow.Author.Tests.{eqb-false, ne-eqb, leb-true, not-true, eqb-true}
+use lib.Dec.{leb, eqb}
 use mathlib.Core.Option.{Option, none, some}
 use lib.Count.{ones}
 use Rattle.laws.specs.Bits.{bit}
 use Rattle.laws.specs.Lists.{find, from}
 use Rattle.laws.proofs.Bits.{bit-pow, bit-zero, one-set, sub-less, sub-ones}
-use Rattle.laws.proofs.Bools.{and-both, and-left, and-right}
+use Rattle.laws.proofs.Bools.{and-both, and-left, and-right, by-test}
 use Rattle.laws.proofs.Lists.{filter-from-ordered, filter-is, find-some, from-bounds, none-some, sum-map-lt}
 use Rattle.guard.specs.Closure.{LacksAt, SameAt, State, closureOf, labelOf, lacks, reads}
 use Rattle.guard.specs.File.{types, variant}
@@ -37,6 +37,10 @@ fewer d ls Same Lacks o =
       isLiteral = λ i v m. o .isLiteral i v (List·Memᴰ·tail m);
       isntLiteral = λ i v m. o .isntLiteral i v (List·Memᴰ·tail m);
     }
+
+pub cons-in-range : (l : Literal) (ls : List Literal) → LiteralInRange l → LiteralsInRange ls → LiteralsInRange (l ∷ ls)
+cons-in-range l ls h hs k (List·Memᴰ·head e) = subst LiteralInRange (sym e) h
+cons-in-range l ls h hs k (List·Memᴰ·tail m) = hs k m
 
 -- what a split is: a term of the table whose label holds the variant and another one
 pub record SplitsAt (t : Table) (s : State) (d : Split) : Type 0 where
@@ -61,27 +65,41 @@ module _ (t : Table) (range : InRange t) where
 
   -- ---- the split of a node
 
-  split-term : (ls : List Literal) (x : Term) → List·Memᴰ x (t .terms) → secondKind t (S ls) x ≡ true → SplitsAt t (S ls) (onTerm t (S ls) x)
-  split-term ls x m e = go (variantsLeft t (S ls) x) refl (leb-true 2 (length (variantsLeft t (S ls) x)) (and-left (leb 2 (length (variantsLeft t (S ls) x))) _ e))
+  -- a term of the second kind may be split on any variant left to it
+  pub split-term : (ls : List Literal) (x : Term) (v : ℕ) → List·Memᴰ x (t .terms) → secondKind t (S ls) x ≡ true → List·Memᴰ v (variantsLeft t (S ls) x)
+      → SplitsAt t (S ls) (record { term = x .term; variant = v })
+  split-term ls x v m e mv = go (variantsLeft t (S ls) x) refl (leb-true 2 (length (variantsLeft t (S ls) x)) (and-left (leb 2 (length (variantsLeft t (S ls) x))) _ e))
     where
       many : ℕ
       many = length (variantsOf (t .types) (x .type))
 
-      left : (v : ℕ) → List·Memᴰ v (variantsLeft t (S ls) x) → (v < variantLimit) × (not (lacks (S ls) (x .term) v) ≡ true)
-      left v k = let (a, b) = filter-is (λ v. not (lacks (S ls) (x .term) v)) (from many 0) v k in (omega (arith, from-bounds many 0 v a .1, range .terms x m .1), b)
+      left : (w : ℕ) → List·Memᴰ w (variantsLeft t (S ls) x) → (w < variantLimit) × (not (lacks (S ls) (x .term) w) ≡ true)
+      left w k = let (a, b) = filter-is (λ v. not (lacks (S ls) (x .term) v)) (from many 0) w k in (omega (arith, from-bounds many 0 w a .1, range .terms x m .1), b)
 
-      go : (vs : List ℕ) → variantsLeft t (S ls) x ≡ vs → 2 ≤ length vs → SplitsAt t (S ls) (onTerm t (S ls) x)
+      -- with another variant left beside it
+      beside : (w : ℕ) → List·Memᴰ w (variantsLeft t (S ls) x) → ¬ (w ≡ v) → SplitsAt t (S ls) (record { term = x .term; variant = v })
+      beside w mw ne =
+          let (hv, lv) = left v mv in
+          let (hw, lw) = left w mw in
+          record { type = x .type; term = m; variant = hv; another = and-both (not (lacks (S ls) (x .term) v)) _ lv
+              (ap not (ne-eqb (labelOf (S ls) (x .term)) (2 ^ v) (λ z. eqb-false (bit (labelOf (S ls) (x .term)) w) 0 (not-true _ lw)
+              (ap (λ (l : ℕ). bit l w) z ∙ bit-pow v w hv hw ne)))) }
+
+      go : (vs : List ℕ) → variantsLeft t (S ls) x ≡ vs → 2 ≤ length vs → SplitsAt t (S ls) (record { term = x .term; variant = v })
       go [] q h = absurd (omega arith)
       go (u ∷ []) q h = absurd (omega arith)
       go (u ∷ w ∷ us) q h =
-          let (hu, lu) = left u (subst (List·Memᴰ u) (sym q) (List·Memᴰ·head refl)) in
-          let (hw, lw) = left w (subst (List·Memᴰ w) (sym q) (List·Memᴰ·tail (List·Memᴰ·head refl))) in
           let less : u < w = filter-from-ordered (λ v. not (lacks (S ls) (x .term) v)) many 0 u w us q in
-          let lowest : u ≡ getD (variantsLeft t (S ls) x) 0 0 = ap (λ (l : List ℕ). getD l 0 0) (sym q) in
-          subst (λ (v : ℕ). SplitsAt t (S ls) (record { term = x .term; variant = v })) lowest
-          (record { type = x .type; term = m; variant = hu; another = and-both (not (lacks (S ls) (x .term) u)) _ lu
-              (ap not (ne-eqb (labelOf (S ls) (x .term)) (2 ^ u) (λ z. eqb-false (bit (labelOf (S ls) (x .term)) w) 0 (not-true _ lw)
-              (ap (λ (l : ℕ). bit l w) z ∙ bit-pow u w hu hw (λ e. omega (arith, e)))))) })
+          by-test (eqb u v) (λ y. beside w (subst (List·Memᴰ w) (sym q) (List·Memᴰ·tail (List·Memᴰ·head refl))) (λ z. omega (arith, eqb-true u v y, z)))
+          (λ y. beside u (subst (List·Memᴰ u) (sym q) (List·Memᴰ·head refl)) (eqb-false u v y))
+
+  -- the lowest variant of a term of the second kind is left to it
+  pub lowest-left : (ls : List Literal) (x : Term) → secondKind t (S ls) x ≡ true → List·Memᴰ (onTerm t (S ls) x .variant) (variantsLeft t (S ls) x)
+  lowest-left ls x e = go (variantsLeft t (S ls) x) (leb-true 2 (length (variantsLeft t (S ls) x)) (and-left (leb 2 (length (variantsLeft t (S ls) x))) _ e))
+    where
+      go : (vs : List ℕ) → 2 ≤ length vs → List·Memᴰ (getD vs 0 0) vs
+      go [] h = absurd (omega arith)
+      go (u ∷ us) h = List·Memᴰ·head refl
 
   pub split-is : (ls : List Literal) (d : Split) → splitOf t (S ls) ≡ some d → SplitsAt t (S ls) d
   unfolding splitOf
@@ -96,15 +114,14 @@ module _ (t : Table) (range : InRange t) where
       go none (some x) q q2 e =
           let z : onTerm t (S ls) x ≡ d = cc in
           let (m, k) = find-some (secondKind t (S ls)) (t .terms) x q2 in
-          subst (SplitsAt t (S ls)) z (split-term ls x m k)
+          subst (SplitsAt t (S ls)) z (split-term ls x (onTerm t (S ls) x .variant) m k (lowest-left ls x k))
       go none none q q2 e = absurd (none-some d e)
 
   -- ---- a child
 
   module _ (ls : List Literal) (rs : LiteralsInRange ls) (l : Literal) (rl : LiteralInRange l) where
-    pub child-in-range : LiteralsInRange (l ∷ ls)
-    child-in-range k (List·Memᴰ·head e) = subst LiteralInRange (sym e) rl
-    child-in-range k (List·Memᴰ·tail m) = rs k m
+    child-in-range : LiteralsInRange (l ∷ ls)
+    child-in-range = cons-in-range l ls rl rs
 
     -- what a node says, its children say
     pub child-same : (i j : ℕ) → i < termCount → j < termCount → SameAt (S ls) i j → SameAt (S (l ∷ ls)) i j
@@ -130,18 +147,19 @@ module _ (t : Table) (range : InRange t) where
 
   -- both children of a split: their literals are in range, and the total falls
   module _ (ls : List Literal) (rs : LiteralsInRange ls) (d : Split) (sp : SplitsAt t (S ls) d) where
-    split-small : d .term < termCount
-    split-small = range .terms (record { term = d .term; type = sp .type }) (sp .term) .0
+    -- the decision, for "is" and "isn't" alike
+    pub decision-in-range : (d .term < termCount) × (d .variant < variantLimit)
+    decision-in-range = (range .terms (record { term = d .term; type = sp .type }) (sp .term) .0, sp .variant)
 
     pub is-in-range : LiteralsInRange (is (d .term) (d .variant) ∷ ls)
-    is-in-range = child-in-range ls rs (is (d .term) (d .variant)) (split-small, sp .variant)
+    is-in-range = cons-in-range (is (d .term) (d .variant)) ls decision-in-range rs
 
     pub isnt-in-range : LiteralsInRange (isnt (d .term) (d .variant) ∷ ls)
-    isnt-in-range = child-in-range ls rs (isnt (d .term) (d .variant)) (split-small, sp .variant)
+    isnt-in-range = cons-in-range (isnt (d .term) (d .variant)) ls decision-in-range rs
 
     pub is-falls : labelTotal t (S (is (d .term) (d .variant) ∷ ls)) < labelTotal t (S ls)
     is-falls =
-        total-falls ls rs (is (d .term) (d .variant)) (split-small, sp .variant) (record { term = d .term; type = sp .type }) (sp .term)
+        total-falls ls rs (is (d .term) (d .variant)) decision-in-range (record { term = d .term; type = sp .type }) (sp .term)
         (λ e. go e (one-set variantLimit (d .variant) (labelOf (S (is (d .term) (d .variant) ∷ ls)) (d .term)) (closure-small t (is (d .term) (d .variant) ∷ ls) (d .term))
         (least (is (d .term) (d .variant) ∷ ls) is-in-range .literals .isLiteral (d .term) (d .variant) (List·Memᴰ·head refl))))
       where
@@ -152,6 +170,6 @@ module _ (t : Table) (range : InRange t) where
 
     pub isnt-falls : labelTotal t (S (isnt (d .term) (d .variant) ∷ ls)) < labelTotal t (S ls)
     isnt-falls =
-        total-falls ls rs (isnt (d .term) (d .variant)) (split-small, sp .variant) (record { term = d .term; type = sp .type }) (sp .term)
+        total-falls ls rs (isnt (d .term) (d .variant)) decision-in-range (record { term = d .term; type = sp .type }) (sp .term)
         (λ e. holds-it (S ls) (d .term) (d .variant) (sp .another)
         (ap (λ (m : ℕ). bit m (d .variant)) (sym e) ∙ least (isnt (d .term) (d .variant) ∷ ls) isnt-in-range .literals .isntLiteral (d .term) (d .variant) (List·Memᴰ·head refl)))

@@ -175,11 +175,12 @@ module _ (g : Guard) where
           mem-concatMap-inv (λ t. defaultConst (g .types) t (getD (defaults (g .types)) t none)) P (from (length (g .types)) 0)
           (λ t j. default-case t (omega (arith, from-bounds (length (g .types)) 0 t j .1)) (getD (defaults (g .types)) t none) refl) c q
 
-  pub term-inv : (P : Term → Type 0) → ((i : ℕ) → i < length (g .rows) → P (record { term = i; type = typeAt (g .types) (g .rows) i }))
-      → ((r : Read) → List·Memᴰ r ((tableOf g) .reads) → (x : Term) → List·Memᴰ x (pairTerms (r .fields) (fieldsOf (g .types) (r .type) (r .variant))) → P x)
+  -- a term is a row, a sibling field or a default
+  pub term-cases : (P : Term → Type 0) → ((i : ℕ) → i < length (g .rows) → P (record { term = i; type = typeAt (g .types) (g .rows) i }))
+      → ((r : Read) → List·Memᴰ r ((tableOf g) .reads) → (x : Term) → List·Memᴰ x (siblingsOf (g .types) r) → P x)
       → ((t : ℕ) → t < length (g .types) → P (record { term = defaultTerm t; type = t })) → (x : Term) → List·Memᴰ x ((tableOf g) .terms) → P x
   unfolding tableOf
-  term-inv P h k l x m = go (List·Memᴰ·append-cases (fromRows (rowTerm (g .types)) 0 (g .rows) ++ siblings) m)
+  term-cases P h k l x m = go (List·Memᴰ·append-cases (fromRows (rowTerm (g .types)) 0 (g .rows) ++ siblings) m)
     where
       reads : List Read
       reads = fromRows (readOf (g .types)) 0 (g .rows)
@@ -192,12 +193,18 @@ module _ (g : Guard) where
 
       go2 : List·Memᴰ x (fromRows (rowTerm (g .types)) 0 (g .rows)) ⊎ List·Memᴰ x siblings → P x
       go2 (inl q) = rows-inv (rowTerm (g .types)) P (g .rows) row-case x q
-      go2 (inr q) =
-          mem-concatMap-inv (siblingsOf (g .types)) P reads (λ r j y n. k r j y (filter-is (λ x. not (eqb (x .term) (r .row))) (pairTerms (r .fields) (fieldsOf (g .types) (r .type) (r .variant))) y n .0)) x q
+      go2 (inr q) = mem-concatMap-inv (siblingsOf (g .types)) P reads k x q
 
       go : List·Memᴰ x (fromRows (rowTerm (g .types)) 0 (g .rows) ++ siblings) ⊎ List·Memᴰ x (map (λ t. record { term = defaultTerm t; type = t }) (from (length (g .types)) 0)) → P x
       go (inl q) = go2 (List·Memᴰ·append-cases (fromRows (rowTerm (g .types)) 0 (g .rows)) q)
       go (inr q) = map-inv (λ t. record { term = defaultTerm t; type = t }) P (from (length (g .types)) 0) (λ t j. l t (omega (arith, from-bounds (length (g .types)) 0 t j .1))) x q
+
+  -- the same with a sibling as one of the terms of its read's fields
+  pub term-inv : (P : Term → Type 0) → ((i : ℕ) → i < length (g .rows) → P (record { term = i; type = typeAt (g .types) (g .rows) i }))
+      → ((r : Read) → List·Memᴰ r ((tableOf g) .reads) → (x : Term) → List·Memᴰ x (pairTerms (r .fields) (fieldsOf (g .types) (r .type) (r .variant))) → P x)
+      → ((t : ℕ) → t < length (g .types) → P (record { term = defaultTerm t; type = t })) → (x : Term) → List·Memᴰ x ((tableOf g) .terms) → P x
+  term-inv P h k l =
+      term-cases P h (λ r j x m. k r j x (filter-is (λ x. not (eqb (x .term) (r .row))) (pairTerms (r .fields) (fieldsOf (g .types) (r .type) (r .variant))) x m .0)) l
 
 -- ---- the numbers of a well-formed guard's table are in range
 

@@ -6,9 +6,9 @@ use Prim.Native.Nat.{ℕ, zero, suc, _+_}
 use lib.Count.{ones}
 use lib.ListN.{length}
 use Rattle.laws.specs.Lists.{concatMap, sum, product}
-use Rattle.guard.specs.Types.{Types, variantsOf}
-use Rattle.guard.specs.Guard.{Row, Row.variable, Row.constant, Row.built, Row.field, Literal, Literal.is, Literal.isnt, Guard, typeOf}
-use Rattle.guard.specs.Terms.{Term, Table, tableOf, fromRows, readOf, siblingsOf}
+use Rattle.guard.specs.Types.{Types, Variant, variantsOf, fieldType}
+use Rattle.guard.specs.Guard.{Row, Row.variable, Row.constant, Row.built, Row.field, Literal, Literal.is, Literal.isnt, Guard}
+use Rattle.guard.specs.Terms.{Term, Table, tableOf, fromRows, siblingsOf}
 use Rattle.guard.specs.Closure.{State, labelOf, closureOf}
 use Rattle.guard.specs.Node.{isClosed, Split, splitOf}
 
@@ -60,22 +60,22 @@ nodeCount g = visits (searchOf g)
 
 -- ---- W
 
--- a factor of W: the number of a type's variants. A number type has none, and gives no factor.
-abbrev pub weight : List (List ℕ) → ℕ
+-- "one factor for each variable of variant type, each field row of variant type, .."
+abbrev pub ownChoice : Types → ℕ → Row → List Term
+ownChoice ts i (variable t) = record { term = i; type = t } ∷ []
+ownChoice ts i (constant t z) = []
+ownChoice ts i (built t v ps) = []
+ownChoice ts i (field t a v p) = record { term = i; type = fieldType ts t v p } ∷ []
+
+-- ".. and each sister field of variant type. A field read in two rows counts twice, with its sisters."
+unfoldable pub choices : Guard → List Term
+choices g = fromRows (ownChoice (g .types)) 0 (g .rows) ++ concatMap (siblingsOf (g .types)) ((tableOf g) .reads)
+
+-- a factor: the number of a type's variants; a number type has none, and gives no factor
+abbrev pub weight : List Variant → ℕ
 weight [] = 1
 weight (v ∷ vs) = suc (length vs)
 
--- "one factor for each variable of variant type, each field row of variant type, .."
-abbrev pub ownChoice : Types → ℕ → Row → List ℕ
-ownChoice ts i (variable t) = t ∷ []
-ownChoice ts i (constant t z) = []
-ownChoice ts i (built t v ps) = []
-ownChoice ts i (field t a v p) = typeOf ts (field t a v p) ∷ []
-
--- ".. and each sister field of variant type. A field read in two rows counts twice, with its sisters."
-abbrev pub siblingChoices : Types → List Row → List ℕ
-siblingChoices ts rs = map (λ x. x .type) (concatMap (siblingsOf ts) (fromRows (readOf ts) 0 rs))
-
 -- "W is a product of variant counts"; "An empty product is 1."
 unfoldable pub W : Guard → ℕ
-W g = product (map (λ t. weight (variantsOf (g .types) t)) (fromRows (ownChoice (g .types)) 0 (g .rows) ++ siblingChoices (g .types) (g .rows)))
+W g = product (map (λ x. weight (variantsOf (g .types) (x .type))) (choices g))

@@ -135,6 +135,19 @@ module _ {A : Type 0} (p : A → Bool) where
       go ih false q r (List·Memᴰ·head d) = ap p d ∙ q
       go ih false q r (List·Memᴰ·tail n) = ih r x n
 
+  -- a test passes at every element, and the other way round
+  pub all-true : (xs : List A) → ((x : A) → List·Memᴰ x xs → p x ≡ true) → all p xs ≡ true
+  all-true [] h = refl
+  all-true (x ∷ xs) h = rw (h x (List·Memᴰ·head refl)) (all-true xs (λ y m. h y (List·Memᴰ·tail m)))
+
+  pub all-true-inv : (xs : List A) → all p xs ≡ true → (x : A) → List·Memᴰ x xs → p x ≡ true
+  all-true-inv (y ∷ ys) e x m = go (all-true-inv ys) (p y) refl e m
+    where
+      go : (all p ys ≡ true → (x : A) → List·Memᴰ x ys → p x ≡ true) → (b : Bool) → p y ≡ b → (b && all p ys) ≡ true → List·Memᴰ x (y ∷ ys) → p x ≡ true
+      go ih true q r (List·Memᴰ·head d) = ap p d ∙ q
+      go ih true q r (List·Memᴰ·tail n) = ih r x n
+      go ih false q r n = absurd (false≢true r)
+
   pub any-of : (xs : List A) (x : A) → List·Memᴰ x xs → p x ≡ true → any p xs ≡ true
   any-of (y ∷ ys) x (List·Memᴰ·head e) h = rw (ap p (sym e) ∙ h) refl
   any-of (y ∷ ys) x (List·Memᴰ·tail m) h = go (p y) (any-of ys x m h)
@@ -193,6 +206,10 @@ mem-from (suc n) a k h l = go (mem-from n (suc a) k) (eqb k a) refl
 pub from-bounds : (n a k : ℕ) → List·Memᴰ k (from n a) → (a ≤ k) × (k < a + n)
 from-bounds (suc n) a k (List·Memᴰ·head e) = (omega arith, omega arith)
 from-bounds (suc n) a k (List·Memᴰ·tail m) = let (l, h) = from-bounds n (suc a) k m in (omega arith, omega arith)
+
+pub from-length : (n a : ℕ) → length (from n a) ≡ n
+from-length zero a = refl
+from-length (suc n) a = ap suc (from-length n (suc a))
 
 -- ---- maps
 
