@@ -40,8 +40,8 @@ pub fn answer_with_buffers(
     row_buffer: usize,
     place_buffer: usize,
 ) -> Answer {
-    let guard = read::buffers_long_enough(row_buffer, place_buffer)
-        .and_then(|()| read::read(file, limits));
+    let guard =
+        read::buffers_long_enough(row_buffer, place_buffer).and_then(|()| read::read(file, limits));
     match guard {
         Ok(guard) => answer_to(&guard, budget),
         Err(question) => Answer::Refused(question),

@@ -136,7 +136,12 @@ impl Closure {
     fn built_from_equal_parts(&mut self, built: &[Built]) {
         for (a, b) in pairs(built) {
             let same_variant = a.ty == b.ty && a.variant == b.variant;
-            if same_variant && a.parts.iter().zip(&b.parts).all(|(&p, &q)| self.equal(p, q)) {
+            if same_variant
+                && a.parts
+                    .iter()
+                    .zip(&b.parts)
+                    .all(|(&p, &q)| self.equal(p, q))
+            {
                 self.merge(a.term, b.term);
             }
         }

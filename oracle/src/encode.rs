@@ -8,11 +8,17 @@ use crate::types::Type;
 #[derive(Clone, Copy, Debug, PartialEq, Eq)]
 pub enum Role {
     /// A count with its limit.
-    Count { limit: usize },
+    Count {
+        limit: usize,
+    },
     /// A name of one of so many things.
-    Name { things: usize },
+    Name {
+        things: usize,
+    },
     /// As `Name`, for a number that must also fit a type.
-    Typed { things: usize },
+    Typed {
+        things: usize,
+    },
     Kind,
     Value,
 }
@@ -41,7 +47,10 @@ impl Draft {
     }
 
     pub fn with_types(types: Vec<Type>) -> Draft {
-        Draft { types, ..Draft::default() }
+        Draft {
+            types,
+            ..Draft::default()
+        }
     }
 
     fn push(&mut self, row: Row, ty: usize) -> usize {
@@ -69,7 +78,14 @@ impl Draft {
 
     pub fn read(&mut self, term: usize, variant: usize, position: usize) -> usize {
         let ty = self.types[self.row_types[term]].variants[variant][position];
-        self.push(Row::Read { term, variant, position }, ty)
+        self.push(
+            Row::Read {
+                term,
+                variant,
+                position,
+            },
+            ty,
+        )
     }
 
     pub fn equal(&mut self, a: usize, b: usize) {
@@ -147,7 +163,11 @@ impl Draft {
                     out.typed(part, number);
                 }
             }
-            Row::Read { term, variant, position } => {
+            Row::Read {
+                term,
+                variant,
+                position,
+            } => {
                 let variants = &self.types[self.row_types[*term]].variants;
                 out.kind(3);
                 out.typed(*term, number);

@@ -29,10 +29,23 @@ pub const FIELDS: usize = 3;
 /// A numbered term of the guard.
 #[derive(Clone, Debug, PartialEq, Eq)]
 pub enum Row {
-    Variable { ty: usize },
-    Constant { ty: usize, value: i32 },
-    Built { ty: usize, variant: usize, parts: Vec<usize> },
-    Read { term: usize, variant: usize, position: usize },
+    Variable {
+        ty: usize,
+    },
+    Constant {
+        ty: usize,
+        value: i32,
+    },
+    Built {
+        ty: usize,
+        variant: usize,
+        parts: Vec<usize>,
+    },
+    Read {
+        term: usize,
+        variant: usize,
+        position: usize,
+    },
 }
 
 /// A literal of the guard; the guard is the conjunction of its lines.

@@ -58,13 +58,18 @@ fn run(words: &[&str]) -> Result<(), Failure> {
         ["vectors", "--check", dir] => check_vectors(dir),
         ["vectors", dir] => write_vectors(dir),
         ["pack", vectors, out] => pack_command(vectors, out),
-        _ => Err(Failure::Usage(format!("what is asked isn't clear\n{USAGE}"))),
+        _ => Err(Failure::Usage(format!(
+            "what is asked isn't clear\n{USAGE}"
+        ))),
     }
 }
 
 fn budget(word: &str) -> Result<u32, Failure> {
     word.parse().map_err(|_| {
-        Failure::Usage(format!("the budget {word:?} isn't a number from 0 to {}", u32::MAX))
+        Failure::Usage(format!(
+            "the budget {word:?} isn't a number from 0 to {}",
+            u32::MAX
+        ))
     })
 }
 
@@ -113,9 +118,10 @@ fn check_command(file: &str, output: &str, budget: u32) -> Result<(), Failure> {
 fn smt_command(file: &str) -> Result<(), Failure> {
     match read::read(&load(file)?, Limits::BASE) {
         Ok(guard) => print(&smt::script(&guard)),
-        Err(question) => {
-            Err(Failure::Wrong(format!("the file is REFUSED {}", question.number())))
-        }
+        Err(question) => Err(Failure::Wrong(format!(
+            "the file is REFUSED {}",
+            question.number()
+        ))),
     }
 }
 

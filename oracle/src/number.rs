@@ -52,14 +52,18 @@ pub fn write(mut value: u32, out: &mut Vec<u8>) {
 /// "Written as 2 × v when v is 0 or more and as −2 × v − 1 when it is negative."
 pub fn fold(value: i32) -> u32 {
     let value = i64::from(value);
-    let folded = if value >= 0 { 2 * value } else { -2 * value - 1 };
+    let folded = if value >= 0 {
+        2 * value
+    } else {
+        -2 * value - 1
+    };
     u32::try_from(folded).expect("a folded 32-bit value fits in 32 bits")
 }
 
 /// The inverse of `fold`.
 pub fn unfold(number: u32) -> i32 {
     let half = i64::from(number / 2);
-    let value = if number % 2 == 0 { half } else { -half - 1 };
+    let value = if number & 1 == 0 { half } else { -half - 1 };
     i32::try_from(value).expect("an unfolded 32-bit number fits in 32 bits")
 }
 

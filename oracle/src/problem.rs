@@ -77,7 +77,9 @@ impl<'g> Problem<'g> {
         }
         for ty in 0..guard.types.len() {
             problem.add_default(ty);
-            problem.fieldless.push(problem.variants_where(ty, <[usize]>::is_empty));
+            problem
+                .fieldless
+                .push(problem.variants_where(ty, <[usize]>::is_empty));
         }
         problem
     }
@@ -98,7 +100,11 @@ impl<'g> Problem<'g> {
                 variant: *variant,
                 parts: parts.clone(),
             }),
-            Row::Read { term, variant, position } => self.add_read(row, *term, *variant, *position),
+            Row::Read {
+                term,
+                variant,
+                position,
+            } => self.add_read(row, *term, *variant, *position),
         }
     }
 
@@ -122,7 +128,12 @@ impl<'g> Problem<'g> {
             row,
             position,
             default: self.default(fields[position]),
-            whole: Built { term, ty, variant, parts },
+            whole: Built {
+                term,
+                ty,
+                variant,
+                parts,
+            },
         });
     }
 
@@ -136,7 +147,12 @@ impl<'g> Problem<'g> {
             DefaultOf::Variant(variant) => {
                 let fields = self.guard.fields(ty, variant);
                 let parts = fields.iter().map(|&field| self.default(field)).collect();
-                self.built.push(Built { term, ty, variant, parts });
+                self.built.push(Built {
+                    term,
+                    ty,
+                    variant,
+                    parts,
+                });
             }
         }
     }

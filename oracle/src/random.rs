@@ -23,7 +23,7 @@ impl Random {
         Random(seed)
     }
 
-    pub fn next(&mut self) -> u64 {
+    pub fn bits(&mut self) -> u64 {
         self.0 = self.0.wrapping_add(0x9e37_79b9_7f4a_7c15);
         let mut z = self.0;
         z = (z ^ (z >> 30)).wrapping_mul(0xbf58_476d_1ce4_e5b9);
@@ -33,7 +33,7 @@ impl Random {
 
     /// A number below `bound`, which isn't 0.
     pub fn below(&mut self, bound: usize) -> usize {
-        (self.next() % bound as u64) as usize
+        (self.bits() % bound as u64) as usize
     }
 
     pub fn within(&mut self, range: &RangeInclusive<usize>) -> usize {
@@ -120,7 +120,13 @@ fn make_types(random: &mut Random, style: &Types) -> Vec<Type> {
         let types = match style {
             Types::Given(types) => return types.clone(),
             Types::Most => most_types(random),
-            Types::Made { types, numbers, enumerations, variants, fields } => {
+            Types::Made {
+                types,
+                numbers,
+                enumerations,
+                variants,
+                fields,
+            } => {
                 let many = random.within(types);
                 let make = |_| {
                     if random.percent(*numbers) {
@@ -183,7 +189,9 @@ fn add_row(random: &mut Random, profile: &Profile, draft: &mut Draft, favourite:
 }
 
 fn add_constant(random: &mut Random, profile: &Profile, draft: &mut Draft) -> Option<usize> {
-    let types: Vec<usize> = (0..draft.types.len()).filter(|&t| draft.types[t].is_number()).collect();
+    let types: Vec<usize> = (0..draft.types.len())
+        .filter(|&t| draft.types[t].is_number())
+        .collect();
     let ty = random.pick(&types)?;
     let value = random.pick(&profile.values)?;
     Some(draft.constant(ty, value))
@@ -215,8 +223,13 @@ fn add_built(random: &mut Random, profile: &Profile, draft: &mut Draft) -> Optio
 
 fn add_read(random: &mut Random, profile: &Profile, draft: &mut Draft) -> Option<usize> {
     let with_fields = |row: usize| {
-        let variants = draft.types[draft.row_types[row]].variants.iter().enumerate();
-        variants.filter(|(_, fields)| !fields.is_empty()).map(|(v, fields)| (v, fields.len()))
+        let variants = draft.types[draft.row_types[row]]
+            .variants
+            .iter()
+            .enumerate();
+        variants
+            .filter(|(_, fields)| !fields.is_empty())
+            .map(|(v, fields)| (v, fields.len()))
     };
     let readable = |&row: &usize| with_fields(row).next().is_some();
     let rows: Vec<usize> = (0..draft.rows.len()).filter(readable).collect();

@@ -177,7 +177,11 @@ impl Reader<'_> {
                 let variant = self.name(guard.types[ty].variants.len())?;
                 let fields = guard.fields(ty, variant);
                 let position = self.name(fields.len())?;
-                let row = Row::Read { term, variant, position };
+                let row = Row::Read {
+                    term,
+                    variant,
+                    position,
+                };
                 Ok((row, fields[position]))
             }
         }
@@ -189,11 +193,19 @@ impl Reader<'_> {
             let (a, a_type) = self.term(guard)?;
             let (b, b_type) = self.term(guard)?;
             Question::TypeFits.ask(a_type == b_type)?;
-            Ok(if kind == 0 { Line::Equal(a, b) } else { Line::Unequal(a, b) })
+            Ok(if kind == 0 {
+                Line::Equal(a, b)
+            } else {
+                Line::Unequal(a, b)
+            })
         } else {
             let (term, ty) = self.variant_term(guard)?;
             let variant = self.name(guard.types[ty].variants.len())?;
-            Ok(if kind == 2 { Line::Is(term, variant) } else { Line::Isnt(term, variant) })
+            Ok(if kind == 2 {
+                Line::Is(term, variant)
+            } else {
+                Line::Isnt(term, variant)
+            })
         }
     }
 }

@@ -19,7 +19,10 @@ pub enum Reason {
 
 /// The first reason that applies, in the order of document 01.
 pub fn closed(problem: &Problem, closure: &Closure) -> Option<Reason> {
-    if problem.variant_terms().any(|(term, _)| closure.label(term) == 0) {
+    if problem
+        .variant_terms()
+        .any(|(term, _)| closure.label(term) == 0)
+    {
         return Some(Reason::EmptyLabel);
     }
     let broken = |line: &Line| matches!(*line, Line::Unequal(a, b) if closure.equal(a, b));

@@ -23,8 +23,15 @@ fn ensure(condition: bool, fault: impl FnOnce() -> Fault) -> Result<(), Fault> {
 /// equal exactly if their row numbers are.
 #[derive(Clone, Debug, PartialEq, Eq)]
 pub enum Message {
-    Number { ty: usize, value: i32 },
-    Variant { ty: usize, variant: usize, parts: Vec<usize> },
+    Number {
+        ty: usize,
+        value: i32,
+    },
+    Variant {
+        ty: usize,
+        variant: usize,
+        parts: Vec<usize>,
+    },
 }
 
 impl Message {
@@ -46,12 +53,16 @@ pub fn check_call(
     places: &[i32],
 ) -> Result<(), Fault> {
     let expected = answer_with_buffers(file, budget, limits, rows.len(), places.len());
-    ensure(claimed == expected, || format!("answered {claimed}, expected {expected}"))?;
+    ensure(claimed == expected, || {
+        format!("answered {claimed}, expected {expected}")
+    })?;
     if let (Answer::Sat { .. }, Ok(guard)) = (claimed, read::read(file, limits)) {
         return check_shown(&guard, row_count, rows, places);
     }
     // "After UNSAT or SPENT both buffers are all 0"; the same after REFUSED.
-    ensure(row_count == 0, || format!("{row_count} rows after {claimed}"))?;
+    ensure(row_count == 0, || {
+        format!("{row_count} rows after {claimed}")
+    })?;
     let all_zero = rows.iter().chain(places).all(|&number| number == 0);
     ensure(all_zero, || format!("a buffer isn't all 0 after {claimed}"))
 }
@@ -67,20 +78,29 @@ pub fn check_shown(
     let messages = messages(guard, row_count, rows)?;
     let places = row_of_each_term(guard, &messages, places)?;
     check_reached(&messages, &places)?;
-    let shown = Shown { guard, messages, places };
+    let shown = Shown {
+        guard,
+        messages,
+        places,
+    };
     shown.check_rows()?;
     shown.check_lines()
 }
 
 /// The messages in the row buffer, once its layout is right.
 fn messages(guard: &Guard, row_count: usize, rows: &[i32]) -> Result<Vec<Message>, Fault> {
-    ensure(row_count <= MOST_ROWS, || format!("{row_count} rows are more than {MOST_ROWS}"))?;
-    ensure(4 * row_count <= rows.len(), || format!("{row_count} rows don't fit in the buffer"))?;
+    ensure(row_count <= MOST_ROWS, || {
+        format!("{row_count} rows are more than {MOST_ROWS}")
+    })?;
+    ensure(4 * row_count <= rows.len(), || {
+        format!("{row_count} rows don't fit in the buffer")
+    })?;
     let (used, unused) = rows.split_at(4 * row_count);
     let used: Vec<&[i32]> = used.chunks(4).collect();
     let mut messages: Vec<Message> = Vec::new();
     for (i, numbers) in used.iter().enumerate() {
-        let message = message(guard, &messages, numbers).map_err(|why| format!("row {i}: {why}"))?;
+        let message =
+            message(guard, &messages, numbers).map_err(|why| format!("row {i}: {why}"))?;
         messages.push(message);
         // "No two rows are alike."
         if let Some(j) = used[..i].iter().position(|earlier| earlier == numbers) {
@@ -100,17 +120,27 @@ fn message(guard: &Guard, earlier: &[Message], numbers: &[i32]) -> Result<Messag
     let (head, rest) = (numbers[0], &numbers[1..]);
     let (message, used) = if head < 0 {
         let ty = usize::try_from(-1 - i64::from(head)).unwrap_or(usize::MAX);
-        let found = guard.types.get(ty).ok_or(format!("there is no type {ty}"))?;
-        ensure(found.is_number(), || format!("type {ty} isn't a number type"))?;
+        let found = guard
+            .types
+            .get(ty)
+            .ok_or(format!("there is no type {ty}"))?;
+        ensure(found.is_number(), || {
+            format!("type {ty} isn't a number type")
+        })?;
         (Message::Number { ty, value: rest[0] }, 1)
     } else {
         let (ty, variant) = (head as usize / 16, head as usize % 16);
-        let found = guard.types.get(ty).ok_or(format!("there is no type {ty}"))?;
+        let found = guard
+            .types
+            .get(ty)
+            .ok_or(format!("there is no type {ty}"))?;
         let fields = found.variants.get(variant);
         let fields = fields.ok_or(format!("type {ty} has no variant {variant}"))?;
         let mut parts = Vec::new();
         for (&number, &field) in rest.iter().zip(fields) {
-            let part = usize::try_from(number).ok().filter(|&part| part < earlier.len());
+            let part = usize::try_from(number)
+                .ok()
+                .filter(|&part| part < earlier.len());
             let part = part.ok_or(format!("part {number} isn't a lower row"))?;
             let part_type = earlier[part].ty();
             ensure(part_type == field, || {
@@ -132,11 +162,15 @@ fn row_of_each_term(
     places: &[i32],
 ) -> Result<Vec<usize>, Fault> {
     let terms = guard.rows.len();
-    ensure(terms <= places.len(), || format!("{terms} places don't fit in the buffer"))?;
+    ensure(terms <= places.len(), || {
+        format!("{terms} places don't fit in the buffer")
+    })?;
     let (used, unused) = places.split_at(terms);
     let mut rows = Vec::new();
     for (term, &place) in used.iter().enumerate() {
-        let row = usize::try_from(place).ok().filter(|&row| row < messages.len());
+        let row = usize::try_from(place)
+            .ok()
+            .filter(|&row| row < messages.len());
         let row = row.ok_or(format!("term {term}: there is no row {place}"))?;
         let (shown, wanted) = (messages[row].ty(), guard.row_types[term]);
         ensure(shown == wanted, || {
@@ -157,7 +191,9 @@ fn check_reached(messages: &[Message], places: &[usize]) -> Result<(), Fault> {
     }
     // Parts are lower, so going down meets each row after all that hold it.
     for (row, message) in messages.iter().enumerate().rev() {
-        ensure(reached[row], || format!("row {row} isn't reached from a term"))?;
+        ensure(reached[row], || {
+            format!("row {row} isn't reached from a term")
+        })?;
         if let Message::Variant { parts, .. } = message {
             for &part in parts {
                 reached[part] = true;
@@ -182,14 +218,26 @@ impl Shown<'_> {
             let right = match row {
                 Row::Variable { .. } => true,
                 Row::Constant { ty, value } => {
-                    self.messages[place] == Message::Number { ty: *ty, value: *value }
+                    self.messages[place]
+                        == Message::Number {
+                            ty: *ty,
+                            value: *value,
+                        }
                 }
                 Row::Built { ty, variant, parts } => {
                     let parts = parts.iter().map(|&part| self.places[part]).collect();
-                    let wanted = Message::Variant { ty: *ty, variant: *variant, parts };
+                    let wanted = Message::Variant {
+                        ty: *ty,
+                        variant: *variant,
+                        parts,
+                    };
                     self.messages[place] == wanted
                 }
-                Row::Read { term: from, variant: read, position } => {
+                Row::Read {
+                    term: from,
+                    variant: read,
+                    position,
+                } => {
                     match &self.messages[self.places[*from]] {
                         Message::Variant { variant, parts, .. } if variant == read => {
                             place == parts[*position]
@@ -200,7 +248,9 @@ impl Shown<'_> {
                     }
                 }
             };
-            ensure(right, || format!("term {term} has a wrong value, row {place}"))?;
+            ensure(right, || {
+                format!("term {term} has a wrong value, row {place}")
+            })?;
         }
         Ok(())
     }

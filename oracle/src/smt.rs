@@ -10,7 +10,12 @@ pub fn script(guard: &Guard) -> String {
     for (term, row) in guard.rows.iter().enumerate() {
         script.push(term_definition(guard, term, row));
     }
-    script.extend(guard.lines.iter().map(|line| format!("(assert {})", formula(guard, line))));
+    script.extend(
+        guard
+            .lines
+            .iter()
+            .map(|line| format!("(assert {})", formula(guard, line))),
+    );
     script.push("(check-sat)".to_string());
     script.join("\n") + "\n"
 }
@@ -44,7 +49,13 @@ fn datatypes(guard: &Guard) -> Option<String> {
         bodies.push(format!("({})", variants.join(" ")));
     }
     let some = !names.is_empty();
-    some.then(|| format!("(declare-datatypes ({}) ({}))", names.join(" "), bodies.join(" ")))
+    some.then(|| {
+        format!(
+            "(declare-datatypes ({}) ({}))",
+            names.join(" "),
+            bodies.join(" ")
+        )
+    })
 }
 
 fn integer(value: i32) -> String {
@@ -85,7 +96,11 @@ fn term_definition(guard: &Guard, term: usize, row: &Row) -> String {
             built(*ty, *variant, &parts)
         }
         // Other solvers leave such a read of another variant open.
-        Row::Read { term: from, variant, position } => {
+        Row::Read {
+            term: from,
+            variant,
+            position,
+        } => {
             let of = guard.row_types[*from];
             format!(
                 "(ite ((_ is c{of}_{variant}) t{from}) (f{of}_{variant}_{position} t{from}) {})",
@@ -97,7 +112,8 @@ fn term_definition(guard: &Guard, term: usize, row: &Row) -> String {
 }
 
 fn formula(guard: &Guard, line: &Line) -> String {
-    let is = |term: usize, variant| format!("((_ is c{}_{variant}) t{term})", guard.row_types[term]);
+    let is =
+        |term: usize, variant| format!("((_ is c{}_{variant}) t{term})", guard.row_types[term]);
     match *line {
         Line::Equal(a, b) => format!("(= t{a} t{b})"),
         Line::Unequal(a, b) => format!("(not (= t{a} t{b}))"),

@@ -44,9 +44,16 @@ fn check_messages(guard: &Guard, text: &str) -> Result<(), Fault> {
     let numbers = parse(text)?;
     let (printed, terms) = (numbers.places.len(), guard.rows.len());
     if printed != terms {
-        return Err(format!("{printed} terms are printed, the guard has {terms}"));
+        return Err(format!(
+            "{printed} terms are printed, the guard has {terms}"
+        ));
     }
-    check_shown(guard, numbers.rows.len() / 4, &numbers.rows, &numbers.places)?;
+    check_shown(
+        guard,
+        numbers.rows.len() / 4,
+        &numbers.rows,
+        &numbers.places,
+    )?;
     // The parser is lenient about spaces and leading zeros; this isn't.
     let exact = print(guard, &numbers);
     if text == exact {
@@ -102,7 +109,9 @@ fn parse_line(numbers: &mut Numbers, line: &str) -> Result<(), Fault> {
         ["row", row, "type", ty, "number", value] => {
             in_turn(numbers, row)?;
             let ty = below(TYPE_NUMBERS, ty)?;
-            let value: i32 = value.parse().map_err(|_| "the value isn't a signed 32-bit number")?;
+            let value: i32 = value
+                .parse()
+                .map_err(|_| "the value isn't a signed 32-bit number")?;
             numbers.rows.extend([-1 - ty, value, 0, 0]);
         }
         ["row", row, "type", ty, "variant", variant, ref parts @ ..] => {

@@ -98,7 +98,13 @@ mod tests {
 
     #[test]
     fn finite_types_are_reached_in_rounds() {
-        let types = [ty(&[&[1, 1]]), ty(&[&[2]]), ty(&[&[], &[]]), ty(&[]), ty(&[&[], &[4]])];
+        let types = [
+            ty(&[&[1, 1]]),
+            ty(&[&[2]]),
+            ty(&[&[], &[]]),
+            ty(&[]),
+            ty(&[&[], &[4]]),
+        ];
         assert_eq!(finite(&types), [true, true, true, false, false]);
     }
 }

@@ -19,7 +19,13 @@ const ROUNDS: usize = 4;
 /// The smallest messages of each type, by rounds.
 fn small_messages(guard: &Guard) -> Vec<Vec<Message>> {
     let numbers = [0, 1, 2, -1, 7, 8].map(Message::Number);
-    let start = |ty: &oracle::types::Type| if ty.is_number() { numbers.to_vec() } else { vec![] };
+    let start = |ty: &oracle::types::Type| {
+        if ty.is_number() {
+            numbers.to_vec()
+        } else {
+            vec![]
+        }
+    };
     let mut known: Vec<Vec<Message>> = guard.types.iter().map(start).collect();
     for _ in 0..ROUNDS {
         let earlier = known.clone();
@@ -45,7 +51,7 @@ fn longer(fronts: &[Vec<Message>], messages: &[Message]) -> Vec<Vec<Message>> {
     let mut all = Vec::new();
     for message in messages {
         for front in fronts {
-            all.push([front.as_slice(), &[message.clone()]].concat());
+            all.push([front.as_slice(), std::slice::from_ref(message)].concat());
         }
     }
     all.truncate(200);
@@ -57,7 +63,10 @@ fn default(guard: &Guard, ty: usize) -> Message {
         DefaultOf::Zero => Message::Number(0),
         DefaultOf::Variant(variant) => {
             let fields = guard.fields(ty, variant).iter();
-            Message::Variant(variant, fields.map(|&field| default(guard, field)).collect())
+            Message::Variant(
+                variant,
+                fields.map(|&field| default(guard, field)).collect(),
+            )
         }
     }
 }
@@ -82,7 +91,11 @@ fn some_model(guard: &Guard, small: &[Vec<Message>], values: &mut Vec<Message>) 
             let parts = parts.iter().map(|&part| values[part].clone()).collect();
             Message::Variant(*variant, parts)
         }
-        Row::Read { term, variant, position } => match &values[*term] {
+        Row::Read {
+            term,
+            variant,
+            position,
+        } => match &values[*term] {
             Message::Variant(shown, parts) if shown == variant => parts[*position].clone(),
             _ => default(guard, guard.row_types[row]),
         },
@@ -94,9 +107,7 @@ fn some_model(guard: &Guard, small: &[Vec<Message>], values: &mut Vec<Message>) 
 }
 
 fn holds(line: &Line, values: &[Message]) -> bool {
-    let is = |term: usize, variant| {
-        matches!(&values[term], Message::Variant(shown, _) if *shown == variant)
-    };
+    let is = |term: usize, variant| matches!(&values[term], Message::Variant(shown, _) if *shown == variant);
     match *line {
         Line::Equal(a, b) => values[a] == values[b],
         Line::Unequal(a, b) => values[a] != values[b],
@@ -133,7 +144,10 @@ fn small_models_agree_with_the_search() {
     for round in 0..900 {
         let file = draft(&mut random, &profiles[round % profiles.len()]).bytes();
         let guard = read(&file, Limits::BASE).expect("random guards are accepted");
-        let variables = guard.rows.iter().filter(|row| matches!(row, Row::Variable { .. }));
+        let variables = guard
+            .rows
+            .iter()
+            .filter(|row| matches!(row, Row::Variable { .. }));
         if variables.count() > 3 {
             continue;
         }

@@ -27,7 +27,11 @@ fn cases_a_to_j() {
         (C, 2, "SPENT 2"),
         ("X 02 00 01 03 00 01 01 02 00 00 01 02 00 01", 1, "UNSAT 1"),
         ("X 02 00 01 00 01 01 01 00 01", 1, "SAT 1"),
-        ("X 02 00 01 00 01 03 01 00 01 03 00 01 03 01 01", 1, "UNSAT 1"),
+        (
+            "X 02 00 01 00 01 03 01 00 01 03 00 01 03 01 01",
+            1,
+            "UNSAT 1",
+        ),
         (H, 11, "UNSAT 11"),
         (H, 10, "SPENT 10"),
         ("01 00 02 01 00 05 01 00 08 01 00 00 01", 1, "UNSAT 1"),
@@ -71,8 +75,8 @@ fn the_first_no_counts() {
     let files = [
         // The types lack a default, and the file stops after them.
         ("01 01 01 00", "REFUSED 8"),
-        // Neither a default nor a field that can grow.
-        ("02 01 00 01 02 00 01", "REFUSED 8"),
+        // Type 1 has no default, and type 2 no field that can grow.
+        ("03 01 00 01 01 01 01 01 00", "REFUSED 8"),
         // A finite field alone, and the file stops after the types.
         ("02 01 00 01 01 00", "REFUSED 9"),
         // A part that names no earlier row, which can't fit either.
@@ -87,9 +91,12 @@ fn the_first_no_counts() {
         ("87 00", "REFUSED 3"),
         ("87", "REFUSED 2"),
         // 16 + 16 + 16 variants, and one more.
-        ("04 10 00 00 00 00 00 00 00 00 00 00 00 00 00 00 00 00 \
+        (
+            "04 10 00 00 00 00 00 00 00 00 00 00 00 00 00 00 00 00 \
           10 00 00 00 00 00 00 00 00 00 00 00 00 00 00 00 00 \
-          10 00 00 00 00 00 00 00 00 00 00 00 00 00 00 00 00 01", "REFUSED 4"),
+          10 00 00 00 00 00 00 00 00 00 00 00 00 00 00 00 00 01",
+            "REFUSED 4",
+        ),
     ];
     for (text, expected) in files {
         assert_eq!(given(text, 1), expected, "{text}");
@@ -122,12 +129,19 @@ fn budgets_around_the_node_count() {
 
 #[test]
 fn limits_are_a_parameter() {
-    let small = Limits { types: 1, terms: 2, lines: 1 };
+    let small = Limits {
+        types: 1,
+        terms: 2,
+        lines: 1,
+    };
     let given = |text: &str| answer(&file(text), 100, small).to_string();
     assert_eq!(given("02 00 00 00 00"), "REFUSED 4");
     assert_eq!(given("01 00 03 00 00 00 00 00 00 00"), "REFUSED 4");
     assert_eq!(given("01 00 02 00 00 00 00 02"), "REFUSED 4");
     assert_eq!(given("01 00 02 00 00 00 00 01 01 00 01"), "SAT 1");
     // nil or cons(list): x is its own tail, and isn't nil.
-    assert_eq!(given("01 02 00 01 00 02 00 00 03 00 01 00 01 00 00 01"), "SAT 3");
+    assert_eq!(
+        given("01 02 00 01 00 02 00 00 03 00 01 00 01 00 00 01"),
+        "SAT 3"
+    );
 }

@@ -28,7 +28,12 @@ term 4 row 0
 ";
 
 fn checked(file: &str, output: &str) -> Result<(), String> {
-    check(&unhex(file).expect("hexadecimal"), output, 1_000_000, Limits::BASE)
+    check(
+        &unhex(file).expect("hexadecimal"),
+        output,
+        1_000_000,
+        Limits::BASE,
+    )
 }
 
 #[test]
@@ -50,7 +55,11 @@ fn damaged_answers_fail() {
         ("SAT 1\n", "UNSAT 1\n", "expected SAT 1"),
         ("SAT 1\n", "", "expected SAT 1"),
         ("number 7", "number 5", "rows 1 and 3 are alike"),
-        ("number 7", "number 2147483648", "isn't a signed 32-bit number"),
+        (
+            "number 7",
+            "number 2147483648",
+            "isn't a signed 32-bit number",
+        ),
         ("number 7", "number +7", "the form is"),
         ("number 7", "number 07", "the form is"),
         ("number 7", "number seven", "isn't a signed 32-bit number"),
@@ -70,7 +79,11 @@ fn damaged_answers_fail() {
         ("variant 0\n", "variant 2\n", "type 1 has no variant 2"),
         ("variant 0\n", "variant 16\n", "isn't a number below 16"),
         ("row 0 type 1", "row 0  type 1", "the form is"),
-        ("parts 3 2\n", "parts 3 2\nrow 5 type 0 number 9\n", "row 5 isn't reached"),
+        (
+            "parts 3 2\n",
+            "parts 3 2\nrow 5 type 0 number 9\n",
+            "row 5 isn't reached",
+        ),
         ("term 0 row 2", "term 0 row 0", "term 2 has a wrong value"),
         ("term 0 row 2", "term 0 row 1", "term 0 is of type 1"),
         ("term 0 row 2", "term 0 row 5", "there is no row 5"),
@@ -78,12 +91,36 @@ fn damaged_answers_fail() {
         ("term 3 row 1", "term 3 row 3", "term 3 has a wrong value"),
         ("term 4 row 0", "term 4 row 2", "term 4 has a wrong value"),
         ("term 4 row 0\n", "", "4 terms are printed, the guard has 5"),
-        ("term 4 row 0\n", "term 4 row 0\nterm 5 row 0\n", "6 terms are printed, the guard has 5"),
-        ("term 4 row 0\n", "term 4 row 0\nterm 5 row 4\n", "6 terms are printed, the guard has 5"),
-        ("term 4 row 0\n", "term 4 row 0\n\n", "neither a row nor a term"),
-        ("term 4 row 0\n", "term 4 row 0", "the text goes on, or stops early"),
-        ("term 1 row 3\nterm 2 row 4\n", "term 2 row 4\nterm 1 row 3\n", "expected term 1"),
-        ("term 0 row 2\n", "term 0 row 2\nrow 5 type 0 number 9\n", "a row after a term"),
+        (
+            "term 4 row 0\n",
+            "term 4 row 0\nterm 5 row 0\n",
+            "6 terms are printed, the guard has 5",
+        ),
+        (
+            "term 4 row 0\n",
+            "term 4 row 0\nterm 5 row 4\n",
+            "6 terms are printed, the guard has 5",
+        ),
+        (
+            "term 4 row 0\n",
+            "term 4 row 0\n\n",
+            "neither a row nor a term",
+        ),
+        (
+            "term 4 row 0\n",
+            "term 4 row 0",
+            "the text goes on, or stops early",
+        ),
+        (
+            "term 1 row 3\nterm 2 row 4\n",
+            "term 2 row 4\nterm 1 row 3\n",
+            "expected term 1",
+        ),
+        (
+            "term 0 row 2\n",
+            "term 0 row 2\nrow 5 type 0 number 9\n",
+            "a row after a term",
+        ),
         ("term 0 row 2\n", "term 0 row 2\r\n", "the form is"),
     ];
     for (old, new, reason) in damages {
@@ -102,14 +139,20 @@ fn damaged_answers_fail() {
 #[test]
 fn a_line_that_does_not_hold_fails() {
     let unequal = "02 00 02 00 02 00 01 02 00 01 00 01 01 01 00 01";
-    let fault = checked(unequal, "SAT 1\nrow 0 type 1 variant 0\nterm 0 row 0\nterm 1 row 0\n");
+    let fault = checked(
+        unequal,
+        "SAT 1\nrow 0 type 1 variant 0\nterm 0 row 0\nterm 1 row 0\n",
+    );
     assert_eq!(fault, Err("line 0 doesn't hold".to_string()));
     let head_is_five = RICH_PRINTED
         .replace("row 3 type 0 number 5\nrow 4", "row 3")
         .replace("number 7", "number 5")
         .replace("parts 3 2", "parts 1 2")
         .replace("term 1 row 3\nterm 2 row 4", "term 1 row 1\nterm 2 row 3");
-    assert_eq!(checked(RICH, &head_is_five), Err("line 1 doesn't hold".to_string()));
+    assert_eq!(
+        checked(RICH, &head_is_five),
+        Err("line 1 doesn't hold".to_string())
+    );
     let nil = "SAT 1
 row 0 type 1 variant 0
 row 1 type 0 number 0
@@ -154,10 +197,21 @@ fn buffers_are_checked_to_their_ends() {
         places[at] = 1;
         assert!(checked(sat, &rows, &places).is_err(), "place {at}");
     }
-    for (at, number) in [(0, 15), (0, -1), (0, -7), (0, i32::MIN), (9, -1), (11, 1), (6, 1)] {
+    for (at, number) in [
+        (0, 15),
+        (0, -1),
+        (0, -7),
+        (0, i32::MIN),
+        (9, -1),
+        (11, 1),
+        (6, 1),
+    ] {
         let mut rows = rows.clone();
         rows[at] = number;
-        assert!(checked(sat, &rows, &places).is_err(), "row number {at} as {number}");
+        assert!(
+            checked(sat, &rows, &places).is_err(),
+            "row number {at} as {number}"
+        );
     }
     let refused = (Answer::Refused(Question::BuffersLongEnough), 0);
     assert_eq!(checked(refused, &[0; 16_383], &[0; 24]), Ok(()));

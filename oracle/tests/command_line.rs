@@ -57,8 +57,14 @@ fn checks_printed_answers() {
     fs::write(&wrong, [0xff, 0xfe, 0x0a]).expect("written");
     let (file, right) = (file.display().to_string(), right.display().to_string());
     let output = oracle(&["check", &file, &right], &[]);
-    assert_eq!((printed(&output), output.status.code()), ("ok\n".to_string(), Some(0)));
-    let output = oracle(&["check", &file, "-"], text.replace("SAT 3", "SAT 2").as_bytes());
+    assert_eq!(
+        (printed(&output), output.status.code()),
+        ("ok\n".to_string(), Some(0))
+    );
+    let output = oracle(
+        &["check", &file, "-"],
+        text.replace("SAT 3", "SAT 2").as_bytes(),
+    );
     assert_eq!(output.status.code(), Some(1));
     assert!(String::from_utf8_lossy(&output.stderr).contains("expected SAT 3"));
     let output = oracle(&["check", &file, &right, "--budget", "2"], &[]);
@@ -107,12 +113,26 @@ fn smt_scripts_are_for_accepted_guards() {
 fn packs_vectors() {
     let dir = scratch("pack");
     let (vectors, out) = (dir.join("vectors.txt"), dir.join("packed"));
-    fs::write(&vectors, "# a comment\nx\t258\t000000\tSAT 1\ny\t0\t-\tREFUSED 2\n").expect("written");
-    let words = ["pack", &vectors.display().to_string(), &out.display().to_string()];
+    fs::write(
+        &vectors,
+        "# a comment\nx\t258\t000000\tSAT 1\ny\t0\t-\tREFUSED 2\n",
+    )
+    .expect("written");
+    let words = [
+        "pack",
+        &vectors.display().to_string(),
+        &out.display().to_string(),
+    ];
     assert_eq!(oracle(&words, &[]).status.code(), Some(0));
     let expected = [3, 0, 0, 0, 0, 2, 1, 0, 0, 0, 0, 0, 0, 0, 0, 255, 255];
     assert_eq!(fs::read(&out).expect("packed"), expected);
-    for bad in ["x 1 00 SAT 1\n", "x\t-1\t00\tSAT 1\n", "x\t1\t0\tSAT 1\n", "x\t1\t0g\tSAT 1\n", "\n"] {
+    for bad in [
+        "x 1 00 SAT 1\n",
+        "x\t-1\t00\tSAT 1\n",
+        "x\t1\t0\tSAT 1\n",
+        "x\t1\t0g\tSAT 1\n",
+        "\n",
+    ] {
         fs::write(&vectors, bad).expect("written");
         assert_eq!(oracle(&words, &[]).status.code(), Some(1), "{bad:?}");
     }

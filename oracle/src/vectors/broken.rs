@@ -1,10 +1,10 @@
 //! Files that are refused, and files with chance damage.
 
+use super::families::enumeration;
 use super::{profiles, Set, USUAL_BUDGET};
 use crate::answer::{answer, Answer};
 use crate::encode::{bytes, Draft, Role, Token};
-use crate::guard::{Limits, FIELDS, VARIANTS_IN_ALL, VARIANTS_PER_TYPE};
-use crate::number;
+use crate::guard::{Limits, FIELDS, VARIANTS_PER_TYPE};
 use crate::random::{self, Random};
 use crate::read::Question;
 use crate::types::Type;
@@ -119,10 +119,15 @@ fn bad_types(random: &mut Random) -> Vec<u8> {
     let mut draft = Draft::default();
     for _ in 0..many {
         let mut ty = Type::default();
-        let variants = if random.percent(20) { 0 } else { 1 + random.below(4) };
+        let variants = if random.percent(20) {
+            0
+        } else {
+            1 + random.below(4)
+        };
         for _ in 0..variants {
             let fields = random.weighted(&[3, 3, 2, 1]);
-            ty.variants.push((0..fields).map(|_| random.below(many)).collect());
+            ty.variants
+                .push((0..fields).map(|_| random.below(many)).collect());
         }
         draft.types.push(ty);
     }
@@ -140,7 +145,7 @@ fn bad_types(random: &mut Random) -> Vec<u8> {
 fn too_long(random: &mut Random) -> Vec<u8> {
     let mut file = whole(random).bytes();
     for _ in 0..=random.below(3) {
-        file.push(random.next() as u8);
+        file.push(random.bits() as u8);
     }
     if random.percent(10) {
         file.resize(1_024 + random.below(300), 0x80);
@@ -162,16 +167,28 @@ fn limits(set: &mut Set) {
         let draft = Draft::with_types(vec![number_type.clone(), wide(many)]);
         set.draft(format!("limit-variants-{many}"), &draft);
     }
-    let full = VARIANTS_IN_ALL - 2 * VARIANTS_PER_TYPE;
-    for many in [full - 1, full, full + 1] {
-        let sixteen = wide(VARIANTS_PER_TYPE);
-        let types = vec![number_type.clone(), sixteen.clone(), wide(many), sixteen];
-        let total = many + 2 * VARIANTS_PER_TYPE;
-        set.draft(format!("limit-total-{total}"), &Draft::with_types(types));
+    // The total is asked at the type that breaks it, before its variants.
+    let sizes: [&[usize]; 11] = [
+        &[16, 16, 15],
+        &[16, 16, 16],
+        &[16, 16, 16, 1],
+        &[15, 16, 16, 2],
+        &[1, 16, 16, 16],
+        &[16, 1, 15, 16],
+        &[8, 8, 8, 8, 8, 8],
+        &[8, 8, 8, 8, 8, 9],
+        &[9, 8, 8, 8, 8, 8],
+        &[12, 12, 12, 13, 1],
+        &[16, 16, 0, 16, 0, 3],
+    ];
+    for (i, sizes) in sizes.iter().enumerate() {
+        let types = sizes.iter().map(|&size| enumeration(size)).collect();
+        let total: usize = sizes.iter().sum();
+        set.draft(
+            format!("limit-total-{total}-{i:02}"),
+            &Draft::with_types(types),
+        );
     }
-    // The total is asked under 4 at the type that breaks it, before its fields.
-    let types = vec![wide(15), wide(15), wide(15), wide(3), wide(1), number_type.clone()];
-    set.draft("limit-total-late", &Draft::with_types(types));
     for many in [FIELDS, FIELDS + 1] {
         let fields = Type {
             variants: vec![vec![0; many]],
@@ -232,8 +249,7 @@ fn chance(set: &mut Set) {
             kept += 1;
         }
     }
-    let mut longest = vec![0x06];
-    number::write(0, &mut longest);
-    longest.resize(2_000, 0x00);
-    set.add("damaged-zeros", USUAL_BUDGET, &longest);
+    let mut zeros = vec![0x06];
+    zeros.resize(2_000, 0x00);
+    set.add("damaged-zeros", USUAL_BUDGET, &zeros);
 }

@@ -20,6 +20,10 @@ pub fn add(set: &mut Set) {
     sibling_order(set);
     same_reads(set);
     equal_parts(set);
+    mixed_labels(set);
+    sixteen_variants(set);
+    fresh_numbers(set);
+    unlike_heads(set);
     reads_back(set);
     tails(set);
     cycles(set);
@@ -52,7 +56,10 @@ pub fn read_colouring(many: usize, colours: usize) -> Draft {
     };
     let mut draft = Draft::with_types(vec![Type::default(), enumeration(colours), records]);
     let records = draft.variables(2, many);
-    let read: Vec<usize> = records.iter().map(|&record| draft.read(record, 1, 1)).collect();
+    let read: Vec<usize> = records
+        .iter()
+        .map(|&record| draft.read(record, 1, 1))
+        .collect();
     draft.all_unequal(&read);
     draft
 }
@@ -60,12 +67,18 @@ pub fn read_colouring(many: usize, colours: usize) -> Draft {
 fn colours(set: &mut Set) {
     for many in 2..=6 {
         for colours in [many - 1, many, many + 1] {
-            set.draft(format!("colours-{many}-{colours}"), &colouring(many, colours));
+            set.draft(
+                format!("colours-{many}-{colours}"),
+                &colouring(many, colours),
+            );
         }
     }
     for many in 2..=4 {
         for colours in [many - 1, many] {
-            set.draft(format!("read-colours-{many}-{colours}"), &read_colouring(many, colours));
+            set.draft(
+                format!("read-colours-{many}-{colours}"),
+                &read_colouring(many, colours),
+            );
         }
     }
     // A ring of odd length needs three colours.
@@ -84,12 +97,19 @@ fn colours(set: &mut Set) {
 pub fn sibling_pigeons(many: usize, colours: usize, fields: usize, optional: bool) -> Draft {
     let mut record = vec![0];
     record.resize(1 + fields, 1);
-    let variants = if optional { vec![vec![], record] } else { vec![record] };
+    let variants = if optional {
+        vec![vec![], record]
+    } else {
+        vec![record]
+    };
     let read = variants.len() - 1;
     let types = vec![Type::default(), enumeration(colours), Type { variants }];
     let mut draft = Draft::with_types(types);
     let records = draft.variables(2, many);
-    let numbers: Vec<usize> = records.iter().map(|&record| draft.read(record, read, 0)).collect();
+    let numbers: Vec<usize> = records
+        .iter()
+        .map(|&record| draft.read(record, read, 0))
+        .collect();
     for &number in &numbers[1..] {
         draft.equal(numbers[0], number);
     }
@@ -137,7 +157,10 @@ fn sibling_order(set: &mut Set) {
                     draft.is(record, 0);
                 }
                 draft.all_unequal(&records);
-                set.draft(format!("sibling-order-{low}-{high}-{position}-{many}"), &draft);
+                set.draft(
+                    format!("sibling-order-{low}-{high}-{position}-{many}"),
+                    &draft,
+                );
             }
         }
     }
@@ -159,7 +182,10 @@ fn same_reads(set: &mut Set) {
             draft.equal(x, y);
             draft.equal(z, y);
             draft.unequal(a, b);
-            set.draft(format!("same-read-{variant}-{position}-{other_variant}-{other}"), &draft);
+            set.draft(
+                format!("same-read-{variant}-{position}-{other_variant}-{other}"),
+                &draft,
+            );
         }
     }
 }
@@ -186,6 +212,111 @@ fn equal_parts(set: &mut Set) {
                 }
                 set.draft(format!("equal-parts-{fields}-{apart}-{variant}"), &draft);
             }
+        }
+    }
+}
+
+/// Types with fields in some variants: a term that lacks those is split on
+/// like an enumeration, one that holds them isn't.
+fn mixed_labels(set: &mut Set) {
+    for many in 2..=4 {
+        for colours in 1..=3 {
+            for kind in ["flat", "open", "half", "read"] {
+                let mut variants = vec![Vec::new(); colours];
+                variants.insert(colours / 2, vec![0]);
+                let types = vec![Type::default(), Type { variants }];
+                let mut draft = Draft::with_types(types);
+                let terms = draft.variables(1, many);
+                for (i, &term) in terms.iter().enumerate() {
+                    let flat = match kind {
+                        "flat" => true,
+                        "open" => false,
+                        _ => i % 2 == 0,
+                    };
+                    if flat {
+                        draft.isnt(term, colours / 2);
+                    } else if kind == "read" {
+                        draft.read(term, colours / 2, 0);
+                    }
+                }
+                draft.all_unequal(&terms);
+                set.draft(format!("mixed-{kind}-{many}-{colours}"), &draft);
+            }
+        }
+    }
+}
+
+/// Labels of 16 variants, cut down one by one.
+fn sixteen_variants(set: &mut Set) {
+    let fields = |flat: bool| Type {
+        variants: (0..16)
+            .map(|v| if flat || v % 5 != 0 { vec![] } else { vec![0] })
+            .collect(),
+    };
+    for (kind, flat) in [("flat", true), ("mixed", false)] {
+        for left in [0, 1, 7, 14, 15, 16] {
+            let mut draft = Draft::with_types(vec![Type::default(), fields(flat)]);
+            let (x, y) = (draft.variable(1), draft.variable(1));
+            for variant in (0..16).filter(|&variant| variant != left) {
+                draft.isnt(x, variant);
+            }
+            set.draft(format!("sixteen-{kind}-left-{left:02}"), &draft);
+            draft.is(y, left.min(15));
+            draft.unequal(x, y);
+            set.draft(format!("sixteen-{kind}-unequal-{left:02}"), &draft);
+        }
+        for many in [2, 3, 8] {
+            let mut draft = Draft::with_types(vec![Type::default(), fields(flat)]);
+            let terms = draft.variables(1, many);
+            draft.all_unequal(&terms);
+            set.draft(format!("sixteen-{kind}-terms-{many}"), &draft);
+        }
+    }
+}
+
+/// Free numbers beside constants that a simple count would run into.
+fn fresh_numbers(set: &mut Set) {
+    for (constants, step) in [(2, 1), (5, -1), (9, 1), (16, 3)] {
+        for free in [1, 2, 4] {
+            let mut draft = Draft::new(&[&[], &[], &[&[0], &[1, 0]]]);
+            let known: Vec<usize> = (0..constants)
+                .map(|i| draft.constant(0, i * step))
+                .collect();
+            let terms = draft.variables(0, free);
+            draft.all_unequal(&terms);
+            for (i, &constant) in known.iter().enumerate() {
+                draft.unequal(terms[i % free], constant);
+            }
+            let (x, y) = (draft.variable(2), draft.variable(2));
+            draft.unequal(x, y);
+            set.draft(format!("fresh-{constants:02}-{free}"), &draft);
+        }
+    }
+}
+
+/// Equal lists whose n-th elements are given: one class holds both constants.
+/// A list that is too short has 0 there.
+fn unlike_heads(set: &mut Set) {
+    for depth in 0..=4 {
+        for (kind, a, b) in [
+            ("zero", 0, 0),
+            ("one", 1, 1),
+            ("unlike", 1, 0),
+            ("ends", i32::MIN, i32::MAX),
+        ] {
+            let mut draft = Draft::new(LISTS);
+            let (x, y) = (draft.variable(1), draft.variable(1));
+            let heads = [x, y].map(|list| {
+                let last = (0..depth).fold(list, |list, _| draft.read(list, 1, 1));
+                draft.read(last, 1, 0)
+            });
+            let constants = [draft.constant(0, a), draft.constant(0, b)];
+            draft.equal(heads[0], constants[0]);
+            draft.equal(heads[1], constants[1]);
+            draft.equal(x, y);
+            set.draft(format!("heads-{kind}-{depth}"), &draft);
+            draft.is(x, 0);
+            set.draft(format!("heads-nil-{kind}-{depth}"), &draft);
         }
     }
 }
@@ -446,7 +577,14 @@ fn largest(set: &mut Set) {
     let wide = |variants: usize| Type {
         variants: vec![vec![0; 3]; variants],
     };
-    let types = vec![Type::default(), wide(10), wide(10), wide(10), wide(10), wide(8)];
+    let types = vec![
+        Type::default(),
+        wide(10),
+        wide(10),
+        wide(10),
+        wide(10),
+        wide(8),
+    ];
     let mut draft = Draft::with_types(types);
     let terms: Vec<usize> = (0..24).map(|i| draft.constant(0, i32::MIN + i)).collect();
     for line in 0..32 {

@@ -65,7 +65,10 @@ pub fn text(vectors: &[Vector]) -> String {
     let mut text = HEADER.to_string();
     for vector in vectors {
         let hex = hex(&vector.file);
-        text += &format!("{}\t{}\t{hex}\t{}\n", vector.name, vector.budget, vector.answer);
+        text += &format!(
+            "{}\t{}\t{hex}\t{}\n",
+            vector.name, vector.budget, vector.answer
+        );
     }
     text
 }
@@ -98,7 +101,9 @@ pub fn pack(vectors: &[Vector]) -> Result<Vec<u8>, String> {
     const END: u16 = u16::MAX;
     let mut out = Vec::new();
     for vector in vectors {
-        let length = u16::try_from(vector.file.len()).ok().filter(|&length| length != END);
+        let length = u16::try_from(vector.file.len())
+            .ok()
+            .filter(|&length| length != END);
         let length = length.ok_or(format!("{} is too long to pack", vector.name))?;
         out.extend(length.to_le_bytes());
         out.extend(&vector.file);
@@ -121,7 +126,10 @@ pub fn first_difference(found: &str, expected: &str) -> Option<String> {
         }
         None => {
             let counts = (found.lines().count(), expected.lines().count());
-            format!("{} lines found, {} expected, or another line end", counts.0, counts.1)
+            format!(
+                "{} lines found, {} expected, or another line end",
+                counts.0, counts.1
+            )
         }
     })
 }

@@ -19,7 +19,9 @@ fn spellings() -> Vec<Vec<u8>> {
             spellings.push(bytes);
         }
     }
-    for fifth in [0x00, 0x01, 0x08, 0x0f, 0x10, 0x1f, 0x40, 0x7f, 0x80, 0x81, 0x8f, 0xff] {
+    for fifth in [
+        0x00, 0x01, 0x08, 0x0f, 0x10, 0x1f, 0x40, 0x7f, 0x80, 0x81, 0x8f, 0xff,
+    ] {
         spellings.push(vec![0x80, 0x80, 0x80, 0x80, fifth]);
         spellings.push(vec![0xff, 0xff, 0xff, 0xff, fifth]);
     }
@@ -46,7 +48,11 @@ fn forms(set: &mut Set) {
         ("terms", &[0x01, 0x00], &[0x00, 0x00, 0x00]),
         ("type", &[0x01, 0x00, 0x01, 0x00], &[0x00]),
         ("kind", &[0x01, 0x00, 0x01], &[0x00, 0x00]),
-        ("lines", &[0x01, 0x00, 0x01, 0x00, 0x00], &[0x00, 0x00, 0x00]),
+        (
+            "lines",
+            &[0x01, 0x00, 0x01, 0x00, 0x00],
+            &[0x00, 0x00, 0x00],
+        ),
     ];
     for (place, before, after) in places {
         for (i, spelling) in spellings().iter().enumerate() {
@@ -83,11 +89,17 @@ fn constants(set: &mut Set) {
     // Every value near an end is taken, and the free numbers need others.
     let mut draft = Draft::new(&[&[], &[&[0]]]);
     let values = [i32::MIN, i32::MAX, 0, 1, -1];
-    let mut terms: Vec<usize> = values.iter().map(|&value| draft.constant(0, value)).collect();
+    let mut terms: Vec<usize> = values
+        .iter()
+        .map(|&value| draft.constant(0, value))
+        .collect();
     terms.extend(draft.variables(0, 3));
     draft.all_unequal(&terms);
     set.draft("ends-free", &draft);
-    let boxes: Vec<usize> = terms[..4].iter().map(|&term| draft.built(1, 0, &[term])).collect();
+    let boxes: Vec<usize> = terms[..4]
+        .iter()
+        .map(|&term| draft.built(1, 0, &[term]))
+        .collect();
     draft.equal(boxes[0], boxes[1]);
     set.draft("ends-boxes", &draft);
 }

@@ -18,6 +18,11 @@ fn given(types: &[&[&[usize]]]) -> Types {
     Types::Given(types.iter().map(ty).collect())
 }
 
+/// Numbers, two colours, and records of both.
+fn records() -> Types {
+    given(&[&[], &[&[], &[]], &[&[], &[0, 1], &[1, 2, 1], &[0]]])
+}
+
 fn base(name: &'static str, types: Types) -> Profile {
     Profile {
         name,
@@ -54,7 +59,6 @@ pub fn all() -> Vec<Profile> {
         variants: 1..=2,
         fields: [1, 2, 2, 1],
     };
-    let mixed_records = given(&[&[], &[&[], &[]], &[&[], &[0, 1], &[1, 2, 1], &[0]]]);
     vec![
         base("small", made.clone()),
         Profile {
@@ -78,7 +82,7 @@ pub fn all() -> Vec<Profile> {
         Profile {
             row_kinds: [3, 1, 2, 6],
             line_kinds: [5, 6, 1, 2],
-            ..base("siblings", mixed_records.clone())
+            ..base("siblings", records())
         },
         Profile {
             row_kinds: [1, 0, 0, 12],
@@ -98,6 +102,12 @@ pub fn all() -> Vec<Profile> {
             row_kinds: [3, 4, 3, 4],
             line_kinds: [5, 4, 1, 1],
             ..base("numbers", numbers)
+        },
+        Profile {
+            row_kinds: [2, 3, 2, 6],
+            line_kinds: [6, 2, 1, 1],
+            values: vec![0, 0, 0, 1, -1],
+            ..base("constants", given(&[&[], &[&[0, 1], &[0], &[]]]))
         },
         Profile {
             rows: 4..=12,
@@ -124,7 +134,6 @@ pub fn all() -> Vec<Profile> {
 
 /// Profiles whose searches are often long.
 pub fn long() -> Vec<Profile> {
-    let records = given(&[&[], &[&[], &[]], &[&[], &[0, 1], &[1, 2, 1], &[0]]]);
     let pairs = given(&[&[&[], &[]], &[&[0, 1], &[], &[1, 0, 0]]]);
     let colours = |name, types: Types, rows| Profile {
         rows,
@@ -140,7 +149,7 @@ pub fn long() -> Vec<Profile> {
             row_kinds: [2, 1, 0, 6],
             line_kinds: [1, 20, 0, 1],
             deep: 0,
-            ..base("records", records)
+            ..base("records", records())
         },
         Profile {
             rows: 14..=24,
@@ -179,7 +188,11 @@ pub fn add(set: &mut Set) {
             };
             if left[class] > 0 {
                 left[class] -= 1;
-                set.add(format!("random-{}-{kept:03}", profile.name), USUAL_BUDGET, &file);
+                set.add(
+                    format!("random-{}-{kept:03}", profile.name),
+                    USUAL_BUDGET,
+                    &file,
+                );
                 kept += 1;
             }
             if left == [0; 4] {

@@ -9,20 +9,46 @@ use crate::random::{self, Random};
 pub fn add(set: &mut Set) {
     budgets(set, "budget-colours-5-4", &families::colouring(5, 4));
     budgets(set, "budget-colours-3-3", &families::colouring(3, 3));
-    budgets(set, "budget-read-colours-3-2", &families::read_colouring(3, 2));
-    budgets(set, "budget-siblings-4-3", &families::sibling_pigeons(4, 3, 1, true));
+    budgets(
+        set,
+        "budget-read-colours-3-2",
+        &families::read_colouring(3, 2),
+    );
+    budgets(
+        set,
+        "budget-siblings-4-3",
+        &families::sibling_pigeons(4, 3, 1, true),
+    );
     budgets(set, "budget-lists", &lists(6));
     budgets(set, "budget-walk-colours-6-5", &families::colouring(6, 5));
     budgets(set, "budget-walk-lists", &lists(9));
-    budgets(set, "budget-walk-read-colours", &families::read_colouring(5, 4));
-    budgets(set, "budget-walk-siblings", &families::sibling_pigeons(5, 4, 1, true));
+    budgets(
+        set,
+        "budget-walk-read-colours",
+        &families::read_colouring(5, 4),
+    );
+    budgets(
+        set,
+        "budget-walk-siblings",
+        &families::sibling_pigeons(5, 4, 1, true),
+    );
     set.draft("walk-colours-7-6", &families::colouring(7, 6));
     set.draft("walk-colours-8-7", &families::colouring(8, 7));
-    set.add("walk-colours-8-7-spent", 5_000, &families::colouring(8, 7).bytes());
+    set.add(
+        "walk-colours-8-7-spent",
+        5_000,
+        &families::colouring(8, 7).bytes(),
+    );
     set.draft("walk-late-pigeons-15", &late_pigeons(15));
     set.draft("walk-late-pigeons-17-spent", &late_pigeons(17));
-    set.draft("walk-siblings-6-5", &families::sibling_pigeons(6, 5, 1, true));
-    set.draft("walk-siblings-5-2-2", &families::sibling_pigeons(5, 2, 2, true));
+    set.draft(
+        "walk-siblings-6-5",
+        &families::sibling_pigeons(6, 5, 1, true),
+    );
+    set.draft(
+        "walk-siblings-5-2-2",
+        &families::sibling_pigeons(5, 2, 2, true),
+    );
     set.draft("walk-read-colours-6-5", &families::read_colouring(6, 5));
     random_walks(set);
 }
@@ -74,21 +100,25 @@ fn budgets(set: &mut Set, name: &str, draft: &Draft) {
     }
 }
 
-/// Random guards with long searches.
+/// Random guards with long searches. SAT ones are rare in some profiles.
 fn random_walks(set: &mut Set) {
     const LEAST: u32 = 1_000;
     const MOST: u32 = 20_000;
-    let profiles = profiles::long();
-    let mut random = Random::named("walks");
-    let mut kept = 0;
-    while kept < 24 {
-        let profile = &profiles[kept % profiles.len()];
-        let file = random::draft(&mut random, profile).bytes();
-        let answer = answer(&file, MOST, Limits::BASE);
-        if let Answer::Sat { nodes } | Answer::Unsat { nodes } = answer {
-            if nodes > LEAST {
-                set.add(format!("walk-{}-{kept:02}", profile.name), USUAL_BUDGET, &file);
-                kept += 1;
+    const EACH: usize = 5;
+    for profile in profiles::long() {
+        let mut random = Random::named(profile.name);
+        let (mut sat, mut unsat) = (0, 0);
+        for _ in 0..500 {
+            let file = random::draft(&mut random, &profile).bytes();
+            let (kind, kept, nodes) = match answer(&file, MOST, Limits::BASE) {
+                Answer::Sat { nodes } => ("sat", &mut sat, nodes),
+                Answer::Unsat { nodes } => ("unsat", &mut unsat, nodes),
+                Answer::Refused(_) | Answer::Spent { .. } => continue,
+            };
+            if nodes > LEAST && *kept < EACH {
+                let name = format!("walk-{}-{kind}-{kept}", profile.name);
+                set.add(name, USUAL_BUDGET, &file);
+                *kept += 1;
             }
         }
     }
