@@ -11,7 +11,8 @@ use lib.IntN.{ℤ}
 use Rattle.laws.specs.All.{All, All.more}
 use Rattle.laws.proofs.Lists.{all-getD, map-length}
 use Rattle.guard.specs.Message.{Message, Message.made, Message.number, partAt, toParts}
-use Rattle.growth.proofs.Paths.{down, messageSize, next, partSizes, parts-eq, size-part}
+use Rattle.guard.proofs.MessageLaws.{messageSize, partSizes, parts-eq, size-part}
+use Rattle.growth.proofs.Paths.{down, next}
 
 -- ---- an open structure: what each class is, and its message
 pub data Kind : Type 0 where
