@@ -1,1 +1,2 @@
 pub mod TermValues
+pub mod ValuesObey
