@@ -1,4 +1,4 @@
--- Defaults: what a round gives, that a default stays, and induction over how defaults arise. Assumes nothing.
+-- Defaults: what a round gives, that a default stays, induction over how defaults arise, and the form of a default. Assumes nothing.
 use mathlib.Core.Path.{_≡_, refl, ap, sym, _∙_, subst}
 use mathlib.Core.Bool.{Bool, true, false}
 use mathlib.Core.List.{List, [], _∷_, map}
@@ -11,7 +11,6 @@ use mathlib.Core.Option.{Option, none, some}
 use lib.IntN.{pos}
 use native.Mathlib.Nat.{zero-add}
 use Rattle.laws.proofs.Lists.{map-from-at, map-from-out, none-some}
-use Rattle.guard.specs.File.{parts}
 use Rattle.guard.specs.Meaning.{BelongAll, Belongs}
 use Rattle.guard.specs.Message.{Message, Message.made, Message.number, toParts}
 use Rattle.guard.specs.Types.{Defaults, Types, Variant, consBoth, defaultOf, defaultRounds, defaults, defaultsOf, fieldsOf, firstDefault, lowestReady, nextDefault, orNone, variantsOf}

@@ -4,7 +4,7 @@
 -- then contradicts the values: the value of a term is a variant of its type, an unequal literal holds, two constants have
 -- their own values, and a part of a message is smaller than the message. Assumes nothing.
 use mathlib.Core.Path.{_≡_, ap, sym, _∙_, subst}
-use mathlib.Core.Bool.{true, not, false≢true, _&&_, _||_}
+use mathlib.Core.Bool.{Bool, true, not, false≢true, _&&_, _||_}
 use mathlib.Core.List.{List, [], _∷_, List·Memᴰ, List·Memᴰ·head, List·Memᴰ·tail, map}
 use mathlib.Core.Logic.{_⊎_, inl, inr}
 use Prim.Native.Nat.{ℕ, zero, suc, _<_}
@@ -19,11 +19,10 @@ use Rattle.laws.proofs.Bits.{bit-zero}
 use Rattle.laws.proofs.Bools.{and-left, and-right, cond-ind, or-cases}
 use Rattle.laws.proofs.Lists.{all-concatMap, all-map, all-mem, all-union, all-weaken, all-when, any-some, mem-map}
 use Rattle.guard.specs.Closure.{LacksAt, SameAt, State, buildsAt, classOf, closureOf, eqZ, labelOf, sameClass}
-use Rattle.guard.specs.File.{parts, rows, types}
 use Rattle.guard.specs.Guard.{Guard, Literal, Literal.equal, Literal.is, Literal.isnt, Literal.unequal}
 use Rattle.guard.specs.Limits.{Limits, Supported, variantLimit}
 use Rattle.guard.specs.Meaning.{AllHold, Assigns, Holds, IsVariant, LiteralHolds, values}
-use Rattle.guard.specs.Message.{Message, Message.made, Message.number, Parts.part, noMessage, toParts}
+use Rattle.guard.specs.Message.{Message, Message.number, noMessage, toParts}
 use Rattle.guard.specs.Node.{broken, emptyLabel, insideItself, isClosed, partsOf, reached, unlikeConstants}
 use Rattle.guard.specs.Rules.{ObeysLiterals, ObeysRules}
 use Rattle.guard.specs.Terms.{Build, Const, Table, Term, tableOf, termCount}
@@ -97,8 +96,8 @@ module _ (limits : Limits) (sup : Supported limits) (g : Guard) (ok : WellFormed
   abbrev val : ℕ → Message
   val = termValue g ρ
 
-  inside : InRange (tableOf g)
-  inside = table-in-range limits sup g ok
+  in-range : InRange (tableOf g)
+  in-range = table-in-range limits sup g ok
 
   obey-rules : ObeysRules (tableOf g) (SameValue val) (NotVariant val)
   obey-rules = values-obey limits sup g ok ρ assigns
@@ -113,10 +112,10 @@ module _ (limits : Limits) (sup : Supported limits) (g : Guard) (ok : WellFormed
 
   -- the closure is true of the values
   pub same-value : (i j : ℕ) → i < termCount → j < termCount → SameAt S i j → val i ≡ val j
-  same-value = below-same t ls inside range (SameValue val) (NotVariant val) obey-rules obey-literals
+  same-value = below-same t ls in-range range (SameValue val) (NotVariant val) obey-rules obey-literals
 
   pub lacks-value : (i v : ℕ) → i < termCount → v < variantLimit → LacksAt S i v → ¬ IsVariant (val i) v
-  lacks-value = below-lacks t ls inside range (SameValue val) (NotVariant val) obey-rules obey-literals
+  lacks-value = below-lacks t ls in-range range (SameValue val) (NotVariant val) obey-rules obey-literals
 
   -- "a label is empty"
   pub empty-dead : (x : Term) → List·Memᴰ x (t .terms) → emptyLabel t S x ≡ true → ⊥
@@ -124,7 +123,7 @@ module _ (limits : Limits) (sup : Supported limits) (g : Guard) (ok : WellFormed
   empty-dead x m e =
       let (v, h, i) = term-variant limits sup g ok ρ assigns x m (not-true _ (and-left (not (isNumber (g .types) (x .type))) _ e)) in
       let z : labelOf S (x .term) ≡ 0 = eqb-true _ _ (and-right (not (isNumber (g .types) (x .type))) _ e) in
-      lacks-value (x .term) v (inside .terms x m .0) h (ap (λ (l : ℕ). bit l v) z ∙ bit-zero v) i
+      lacks-value (x .term) v (in-range .terms x m .0) h (ap (λ (l : ℕ). bit l v) z ∙ bit-zero v) i
 
   -- "two terms of an unequal line are equal"
   pub broken-dead : (l : Literal) → List·Memᴰ l ls → broken S l ≡ true → ⊥
@@ -134,18 +133,25 @@ module _ (limits : Limits) (sup : Supported limits) (g : Guard) (ok : WellFormed
   broken-dead (isnt i v) m e = false≢true e
 
   -- "one class holds two constants of different value"
+  abbrev unlike : Term → Const → Const → Bool
+  unlike x a b = sameClass S (x .term) (a .term) && (sameClass S (x .term) (b .term) && not (eqZ (a .value) (b .value)))
+
   pub unlike-dead : (x : Term) → List·Memᴰ x (t .terms) → unlikeConstants t S x ≡ true → ⊥
   unlike-dead x m e =
-      let (a, ma, ea) = any-some (λ a. any (λ b. sameClass S (x .term) (a .term) && (sameClass S (x .term) (b .term) && not (eqZ (a .value) (b .value)))) (t .consts)) (t .consts) e in
-      let (b, mb, eb) = any-some (λ b. sameClass S (x .term) (a .term) && (sameClass S (x .term) (b .term) && not (eqZ (a .value) (b .value)))) (t .consts) ea in
-      let xa : val (x .term) ≡ number (a .type) (a .value) = valued a ma (and-left (sameClass S (x .term) (a .term)) _ eb) in
-      let rest : (sameClass S (x .term) (b .term) && not (eqZ (a .value) (b .value))) ≡ true = and-right (sameClass S (x .term) (a .term)) _ eb in
-      let xb : val (x .term) ≡ number (b .type) (b .value) = valued b mb (and-left (sameClass S (x .term) (b .term)) _ rest) in
-      let z : a .value ≡ b .value = cc in
-      false≢true (sym (not-true _ (and-right (sameClass S (x .term) (b .term)) _ rest)) ∙ eqZ-of (a .value) (b .value) z)
+      let (a, ma, ea) = any-some (λ a. any (unlike x a) (t .consts)) (t .consts) e in
+      let (b, mb, eb) = any-some (unlike x a) (t .consts) ea in
+      two a b ma mb (and-left (sameClass S (x .term) (a .term)) _ eb) (and-right (sameClass S (x .term) (a .term)) _ eb)
     where
       valued : (c : Const) → List·Memᴰ c (t .consts) → sameClass S (x .term) (c .term) ≡ true → val (x .term) ≡ number (c .type) (c .value)
-      valued c k q = same-value (x .term) (c .term) (inside .terms x m .0) (inside .consts c k) (eqb-true _ _ q) ∙ const-value limits sup g ok ρ assigns c k
+      valued c k q = same-value (x .term) (c .term) (in-range .terms x m .0) (in-range .consts c k) (eqb-true _ _ q) ∙ const-value limits sup g ok ρ assigns c k
+
+      two : (a b : Const) → List·Memᴰ a (t .consts) → List·Memᴰ b (t .consts) → sameClass S (x .term) (a .term) ≡ true
+          → (sameClass S (x .term) (b .term) && not (eqZ (a .value) (b .value))) ≡ true → ⊥
+      two a b ma mb p q =
+          let xa : val (x .term) ≡ number (a .type) (a .value) = valued a ma p in
+          let xb : val (x .term) ≡ number (b .type) (b .value) = valued b mb (and-left (sameClass S (x .term) (b .term)) _ q) in
+          let z : a .value ≡ b .value = cc in
+          false≢true (sym (not-true _ (and-right (sameClass S (x .term) (b .term)) _ q)) ∙ eqZ-of (a .value) (b .value) z)
 
   -- the classes of the parts of a class have smaller values
   parts-smaller : (c : ℕ) → All (λ d. messageSize (val d) < messageSize (val c)) (partsOf S (buildsAt t S) c)
@@ -153,23 +159,23 @@ module _ (limits : Limits) (sup : Supported limits) (g : Guard) (ok : WellFormed
       all-concatMap (λ b. when (eqb (classOf S (b .term)) c) (map (classOf S) (b .parts))) (buildsAt t S)
       (λ b m. all-when (eqb (classOf S (b .term)) c) (map (classOf S) (b .parts)) (λ e. all-map (classOf S) (b .parts) (λ p k. smaller b (all-mem fine b m) (eqb-true _ _ e) p k)))
     where
-      sound : Sound t ls inside range (SameValue val) (NotVariant val) obey-rules obey-literals S
-      sound = closure-sound t ls inside range (SameValue val) (NotVariant val) obey-rules obey-literals
+      sound : Sound t ls in-range range (SameValue val) (NotVariant val) obey-rules obey-literals S
+      sound = closure-sound t ls in-range range (SameValue val) (NotVariant val) obey-rules obey-literals
 
-      fine : All (Fine t ls inside range (SameValue val) (NotVariant val) obey-rules obey-literals S sound) (buildsAt t S)
-      fine = fine-all t ls inside range (SameValue val) (NotVariant val) obey-rules obey-literals S sound
+      fine : All (Fine t ls in-range range (SameValue val) (NotVariant val) obey-rules obey-literals S sound) (buildsAt t S)
+      fine = fine-all t ls in-range range (SameValue val) (NotVariant val) obey-rules obey-literals S sound
 
-      smaller : (b : Build) → Fine t ls inside range (SameValue val) (NotVariant val) obey-rules obey-literals S sound b → classOf S (b .term) ≡ c
+      smaller : (b : Build) → Fine t ls in-range range (SameValue val) (NotVariant val) obey-rules obey-literals S sound b → classOf S (b .term) ≡ c
           → (p : ℕ) → List·Memᴰ p (b .parts) → messageSize (val (classOf S p)) < messageSize (val c)
       smaller b f e p k =
-          let part : messageSize (val p) ≡ messageSize (val (classOf S p)) = ap messageSize (sound .class p (all-mem (f .parts) p k)) in
-          let whole : messageSize (val (b .term)) ≡ messageSize (val c) = ap messageSize (sound .class (b .term) (f .term) ∙ ap val e) in
-          let made : messageSize (val (b .term)) ≡ suc (partSizes (toParts (map val (b .parts)))) = ap messageSize (build-value limits sup g ok ρ assigns b (f .at)) in
+          let low : messageSize (val p) ≡ messageSize (val (classOf S p)) = ap messageSize (sound .class p (all-mem (f .parts) p k)) in
+          let high : messageSize (val (b .term)) ≡ messageSize (val c) = ap messageSize (sound .class (b .term) (f .term) ∙ ap val e) in
+          let whole : messageSize (val (b .term)) ≡ suc (partSizes (toParts (map val (b .parts)))) = ap messageSize (build-value limits sup g ok ρ assigns b (f .at)) in
           omega (arith, size-mem (map val (b .parts)) (val p) (mem-map val k))
 
   -- "a class is a part of itself through built rows"
-  pub inside-dead : (x : Term) → List·Memᴰ x (t .terms) → insideItself S (buildsAt t S) x ≡ true → ⊥
-  inside-dead x m e =
+  pub inside-dead : (x : Term) → insideItself S (buildsAt t S) x ≡ true → ⊥
+  inside-dead x e =
       let (d, k, q) = any-some (eqb c) (reached termCount S (buildsAt t S) (union (partsOf S (buildsAt t S) c) [])) e in
       let less : messageSize (val d) < messageSize (val c) = all-mem smaller d k in
       let z : messageSize (val c) ≡ messageSize (val d) = ap (λ (y : ℕ). messageSize (val y)) (eqb-true c d q) in
@@ -190,7 +196,7 @@ module _ (limits : Limits) (sup : Supported limits) (g : Guard) (ok : WellFormed
     where
       third : (any (unlikeConstants t S) (t .terms) ≡ true) ⊎ (any (insideItself S (buildsAt t S)) (t .terms) ≡ true) → ⊥
       third (inl q) = let (x, m, r) = any-some (unlikeConstants t S) (t .terms) q in unlike-dead x m r
-      third (inr q) = let (x, m, r) = any-some (insideItself S (buildsAt t S)) (t .terms) q in inside-dead x m r
+      third (inr q) = let (x, m, r) = any-some (insideItself S (buildsAt t S)) (t .terms) q in inside-dead x r
 
       second : (any (broken S) ls ≡ true) ⊎ ((any (unlikeConstants t S) (t .terms) || any (insideItself S (buildsAt t S)) (t .terms)) ≡ true) → ⊥
       second (inl q) = let (l, m, r) = any-some (broken S) ls q in broken-dead l m r

@@ -16,7 +16,6 @@ use Rattle.laws.specs.All.{All, All.more, All.none}
 use Rattle.laws.specs.Lists.{from}
 use Rattle.laws.proofs.Bools.{cond-ind}
 use Rattle.laws.proofs.Lists.{all-getD, all-mem, map-cong, map-from-at, map-from-length}
-use Rattle.guard.specs.File.{rows, types, variant}
 use Rattle.guard.specs.Guard.{Guard, Row, Row.built, Row.constant, Row.field, Row.variable, rowAt, typeAt, typeOf}
 use Rattle.guard.specs.Limits.{Limits, Supported}
 use Rattle.guard.specs.Meaning.{Assigns, BelongAll, Belongs, readField, valueOf, values, valuesFrom}
@@ -39,7 +38,8 @@ siblingValue ts val (constant t z) k = noMessage
 siblingValue ts val (built t v ps) k = noMessage
 siblingValue ts val (field t a v p) k = readField ts t v (siblingPosition p k) (val a)
 
-abbrev rowValue : Guard → (ℕ → Message) → ℕ → Message
+-- the value of a row
+abbrev pub rowValue : Guard → (ℕ → Message) → ℕ → Message
 rowValue g ρ i = getD (values g ρ) i noMessage
 
 -- row, sibling field or default, by the number of the term
@@ -59,12 +59,16 @@ RowEquation ts ρ val i (field t a v p) = val i ≡ readField ts t v p (val a)
 -- ---- the values of a list of rows
 
 module _ (ts : Types) (ρ : ℕ → Message) where
+  -- the value of the row after those whose values are given
+  abbrev next : List Message → Row → List Message
+  next vals r = valueOf ts ρ (length vals) vals r ∷ []
+
   -- later rows change no value
   kept : (rs : List Row) (vals : List Message) (i : ℕ) → i < length vals → getD (valuesFrom ts ρ vals rs) i noMessage ≡ getD vals i noMessage
   kept [] vals i h = refl
   kept (r ∷ rs) vals i h =
-      kept rs (vals ++ (valueOf ts ρ (length vals) vals r ∷ [])) i (omega (arith, length-append vals (valueOf ts ρ (length vals) vals r ∷ [])))
-      ∙ List·getD-append vals (valueOf ts ρ (length vals) vals r ∷ []) noMessage i h
+      kept rs (vals ++ next vals r) i (omega (arith, length-append vals (next vals r)))
+      ∙ List·getD-append vals (next vals r) noMessage i h
 
   -- row k comes from values that agree with the final ones on all rows before it
   comes-from : (rs : List Row) (vals : List Message) (k : ℕ) → k < length rs
@@ -72,13 +76,15 @@ module _ (ts : Types) (ρ : ℕ → Message) where
       × (getD (valuesFrom ts ρ vals rs) (length vals + k) noMessage ≡ valueOf ts ρ (length vals + k) before (rowAt rs k))
   comes-from [] vals k h = absurd (omega arith)
   comes-from (r ∷ rs) vals zero h =
-      rw add-zero
-      (vals, (λ j hj. sym (kept (r ∷ rs) vals j hj)),
-      kept rs (vals ++ (valueOf ts ρ (length vals) vals r ∷ [])) (length vals) (omega (arith, length-append vals (valueOf ts ρ (length vals) vals r ∷ [])))
-      ∙ getD-append-seam vals (valueOf ts ρ (length vals) vals r) [] noMessage)
+      rw add-zero (
+        vals,
+        (λ j hj. sym (kept (r ∷ rs) vals j hj)),
+        kept rs (vals ++ next vals r) (length vals) (omega (arith, length-append vals (next vals r)))
+            ∙ getD-append-seam vals (valueOf ts ρ (length vals) vals r) [] noMessage,
+      )
   comes-from (r ∷ rs) vals (suc k) h =
-      let e : length (vals ++ (valueOf ts ρ (length vals) vals r ∷ [])) + k ≡ length vals + suc k = omega (arith, length-append vals (valueOf ts ρ (length vals) vals r ∷ [])) in
-      rw (← e) (comes-from rs (vals ++ (valueOf ts ρ (length vals) vals r ∷ [])) k (omega arith))
+      let e : length (vals ++ next vals r) + k ≡ length vals + suc k = omega (arith, length-append vals (next vals r)) in
+      rw (← e) (comes-from rs (vals ++ next vals r) k (omega arith))
 
   -- a row's value depends only on those of the rows before it
   depends : (rs : List Row) (i : ℕ) (w : Row) → RowFits ts rs i w → (xs ys : List Message) → ((j : ℕ) → j < i → getD xs j noMessage ≡ getD ys j noMessage) → valueOf ts ρ i xs w ≡ valueOf ts ρ i ys w
@@ -91,7 +97,7 @@ module _ (ts : Types) (ρ : ℕ → Message) where
 -- ---- the terms of a read's fields, by position
 
 module _ {A : Type 0} (f at : ℕ → A) (r p s n : ℕ) (own : f r ≡ at p) (lower : (k : ℕ) → k < p → f (s + k) ≡ at k) (higher : (k : ℕ) → p ≤ k → suc k < n → f (s + k) ≡ at (suc k)) where
-  -- the next sibling at position q: q of them are passed, or one less after the row itself
+  -- from position q on; `sib` is the next sibling: q of them are passed, or one less after the row itself
   fields-from : (fs : Variant) (q sib : ℕ) → q + length fs ≤ n → ((q ≤ p) × (sib ≡ s + q)) ⊎ ((p < q) × (suc sib ≡ s + q)) → map f (fieldTerms r p q sib fs) ≡ map at (from (length fs) q)
   fields-from [] q sib l h = refl
   fields-from (x ∷ fs) q sib l h = go (fields-from fs (suc q)) (eqb p q) refl h
@@ -118,9 +124,6 @@ module _ {A : Type 0} (f at : ℕ → A) (r p s n : ℕ) (own : f r ≡ at p) (l
           cc
 
 module _ (g : Guard) (ρ : ℕ → Message) where
-  abbrev val : ℕ → Message
-  val = termValue g ρ
-
   -- ---- the three kinds of terms
 
   pub value-row : (i : ℕ) → i < siblingTerm 0 → termValue g ρ i ≡ getD (values g ρ) i noMessage
@@ -141,114 +144,119 @@ module _ (g : Guard) (ρ : ℕ → Message) where
       rw (le-ltb (siblingTerm r + k) (siblingTerm 0) (omega arith), lt-ltb (siblingTerm r + k) (defaultTerm 0) (omega arith), a, b) refl
 
 module _ (limits : Limits) (sup : Supported limits) (g : Guard) (ok : WellFormed limits g) (ρ : ℕ → Message) where
+  abbrev ts : Types
+  ts = g .types
+
+  abbrev val : ℕ → Message
+  val = termValue g ρ
+
   -- ---- the values satisfy the rows
 
   -- the values of a guard's rows are those of its rows over themselves
-  pub values-fixed : (i : ℕ) → i < length (g .rows) → getD (values g ρ) i noMessage ≡ valueOf (g .types) ρ i (values g ρ) (rowAt (g .rows) i)
+  pub values-fixed : (i : ℕ) → i < length (g .rows) → getD (values g ρ) i noMessage ≡ valueOf ts ρ i (values g ρ) (rowAt (g .rows) i)
   values-fixed i h =
-      let (before, agrees, q) = comes-from (g .types) ρ (g .rows) [] i h in
-
-      (rw zero-add at q) ∙ depends (g .types) ρ (g .rows) i (rowAt (g .rows) i) (ok .rows i h) before (values g ρ) (λ j hj. agrees j (omega arith))
+      let (before, agrees, q) = comes-from ts ρ (g .rows) [] i h in
+      (rw zero-add at q) ∙ depends ts ρ (g .rows) i (rowAt (g .rows) i) (ok .rows i h) before (values g ρ) (λ j hj. agrees j (omega arith))
 
   row-small : (i : ℕ) → i < length (g .rows) → i < siblingTerm 0
   row-small i h = omega (arith, few-rows limits sup g ok)
 
-  pub row-equation : (i : ℕ) (w : Row) → i < length (g .rows) → rowAt (g .rows) i ≡ w → RowEquation (g .types) ρ (termValue g ρ) i w
-  row-equation i w h e = go w (row-fit limits sup g ok i w h e) (value-row g ρ i (row-small i h) ∙ values-fixed i h ∙ ap (valueOf (g .types) ρ i (values g ρ)) e)
+  pub row-equation : (i : ℕ) (w : Row) → i < length (g .rows) → rowAt (g .rows) i ≡ w → RowEquation ts ρ val i w
+  row-equation i w h e = go w (row-fit limits sup g ok i w h e) (value-row g ρ i (row-small i h) ∙ values-fixed i h ∙ ap (valueOf ts ρ i (values g ρ)) e)
     where
-      earlier : (j : ℕ) → j < i → getD (values g ρ) j noMessage ≡ termValue g ρ j
+      earlier : (j : ℕ) → j < i → getD (values g ρ) j noMessage ≡ val j
       earlier j hj = sym (value-row g ρ j (omega (arith, row-small i h)))
 
-      go : (w : Row) → RowFits (g .types) (g .rows) i w → termValue g ρ i ≡ valueOf (g .types) ρ i (values g ρ) w → RowEquation (g .types) ρ (termValue g ρ) i w
+      go : (w : Row) → RowFits ts (g .rows) i w → val i ≡ valueOf ts ρ i (values g ρ) w → RowEquation ts ρ val i w
       go (variable t) f q = q
       go (constant t z) f q = q
-      go (built t v ps) f q = q ∙ ap (λ (ms : List Message). made t v (toParts ms)) (map-cong (λ p. getD (values g ρ) p noMessage) (termValue g ρ) ps (λ p m. earlier p (all-mem (f .2) p m)))
-      go (field t a v p) f q = q ∙ ap (readField (g .types) t v p) (earlier a (f .0))
+      go (built t v ps) f q = q ∙ ap (λ (ms : List Message). made t v (toParts ms)) (map-cong (λ p. getD (values g ρ) p noMessage) val ps (λ p m. earlier p (all-mem (f .2) p m)))
+      go (field t a v p) f q = q ∙ ap (readField ts t v p) (earlier a (f .0))
 
   -- the row itself and its siblings have the reads of all fields of the variant
   pub read-fields : (i t a v p : ℕ) → i < length (g .rows) → rowAt (g .rows) i ≡ field t a v p
-      → map (termValue g ρ) (fieldTerms i p 0 (siblingTerm i) (fieldsOf (g .types) t v)) ≡ map (λ q. readField (g .types) t v q (termValue g ρ a)) (from (length (fieldsOf (g .types) t v)) 0)
+      → map val (fieldTerms i p 0 (siblingTerm i) (fieldsOf ts t v)) ≡ map (λ q. readField ts t v q (val a)) (from (length (fieldsOf ts t v)) 0)
   read-fields i t a v p h e =
-      fields-from (termValue g ρ) (λ q. readField (g .types) t v q (termValue g ρ a)) i p (siblingTerm i) (length (fieldsOf (g .types) t v)) (row-equation i (field t a v p) h e)
+      fields-from val at i p (siblingTerm i) (length (fieldsOf ts t v)) (row-equation i (field t a v p) h e)
       (λ k hk. sibling k (omega (arith, f .3, ok .fieldCounts t v)) ∙ ap at (ap (λ (b : Bool). cond b k (suc k)) (lt-ltb k p hk)))
       (λ k hk hn. sibling k (omega (arith, ok .fieldCounts t v)) ∙ ap at (ap (λ (b : Bool). cond b k (suc k)) (le-ltb k p hk)))
-      (fieldsOf (g .types) t v) 0 (siblingTerm i) (omega arith) (inl (omega arith, omega arith))
+      (fieldsOf ts t v) 0 (siblingTerm i) (omega arith) (inl (omega arith, omega arith))
     where
-      f : RowFits (g .types) (g .rows) i (field t a v p)
+      f : RowFits ts (g .rows) i (field t a v p)
       f = row-fit limits sup g ok i (field t a v p) h e
 
       at : ℕ → Message
-      at q = readField (g .types) t v q (termValue g ρ a)
+      at q = readField ts t v q (val a)
 
-      sibling : (k : ℕ) → k < 2 → termValue g ρ (siblingTerm i + k) ≡ readField (g .types) t v (siblingPosition p k) (termValue g ρ a)
+      sibling : (k : ℕ) → k < 2 → val (siblingTerm i + k) ≡ readField ts t v (siblingPosition p k) (val a)
       sibling k hk =
-          value-sibling g ρ i k (row-small i h) hk ∙ ap (λ (w : Row). siblingValue (g .types) (λ j. getD (values g ρ) j noMessage) w k) e
-          ∙ ap (readField (g .types) t v (siblingPosition p k)) (sym (value-row g ρ a (omega (arith, row-small i h, f .0))))
+          value-sibling g ρ i k (row-small i h) hk ∙ ap (λ (w : Row). siblingValue ts (rowValue g ρ) w k) e
+          ∙ ap (readField ts t v (siblingPosition p k)) (sym (value-row g ρ a (omega (arith, row-small i h, f .0))))
 
   -- ---- every value is a message of its term's type
 
-  pub default-of-belongs : (t : ℕ) → t < length (g .types) → Belongs (g .types) (defaultOf (g .types) t) t
+  pub default-of-belongs : (t : ℕ) → t < length ts → Belongs ts (defaultOf ts t) t
   default-of-belongs t h =
       let (m, e) = ok .ready t h in
-      subst (λ (n : Message). Belongs (g .types) n t) (sym (default-is (g .types) t m e)) (default-belongs (g .types) t m e)
+      subst (λ (n : Message). Belongs ts n t) (sym (default-is ts t m e)) (default-belongs ts t m e)
 
-  read-belongs : (m : Message) (t v p : ℕ) → v < length (variantsOf (g .types) t) → p < length (fieldsOf (g .types) t v) → Belongs (g .types) m t
-      → Belongs (g .types) (readField (g .types) t v p m) (fieldType (g .types) t v p)
-  read-belongs (number u z) t v p hv hp b = absurd (false≢true (sym (variant-type (g .types) t v hv) ∙ b .1))
+  read-belongs : (m : Message) (t v p : ℕ) → v < length (variantsOf ts t) → p < length (fieldsOf ts t v) → Belongs ts m t
+      → Belongs ts (readField ts t v p m) (fieldType ts t v p)
+  read-belongs (number u z) t v p hv hp b = absurd (false≢true (sym (variant-type ts t v hv) ∙ b .1))
   read-belongs (made u w ms) t v p hv hp b =
-      cond-ind (λ m. Belongs (g .types) m (fieldType (g .types) t v p)) (eqb v w) (partAt ms p noMessage) (absentField (g .types) t v p)
-      (λ e. part-belongs (g .types) ms (fieldsOf (g .types) t v) p hp (subst (λ (x : ℕ). BelongAll (g .types) ms (fieldsOf (g .types) t x)) (sym (eqb-true v w e)) (b .2)))
-      (λ e. default-of-belongs (fieldType (g .types) t v p) (all-getD (ok .fieldTypes t v) p 0 hp))
+      cond-ind (λ m. Belongs ts m (fieldType ts t v p)) (eqb v w) (partAt ms p noMessage) (absentField ts t v p)
+      (λ e. part-belongs ts ms (fieldsOf ts t v) p hp (subst (λ (x : ℕ). BelongAll ts ms (fieldsOf ts t x)) (sym (eqb-true v w e)) (b .2)))
+      (λ e. default-of-belongs (fieldType ts t v p) (all-getD (ok .fieldTypes t v) p 0 hp))
 
   module _ (assigns : Assigns g ρ) where
-    rows-below : (n i : ℕ) → i < n → i < length (g .rows) → Belongs (g .types) (termValue g ρ i) (typeAt (g .types) (g .rows) i)
+    rows-below : (n i : ℕ) → i < n → i < length (g .rows) → Belongs ts (val i) (typeAt ts (g .rows) i)
     rows-below zero i h l = absurd (omega arith)
     rows-below (suc n) i h l = go (rows-below n) (rowAt (g .rows) i) refl
       where
-        parts : ((j : ℕ) → j < n → j < length (g .rows) → Belongs (g .types) (termValue g ρ j) (typeAt (g .types) (g .rows) j))
-            → (ps : List ℕ) → All (λ p. p < i) ps → BelongAll (g .types) (toParts (map (termValue g ρ) ps)) (map (typeAt (g .types) (g .rows)) ps)
+        parts : ((j : ℕ) → j < n → j < length (g .rows) → Belongs ts (val j) (typeAt ts (g .rows) j))
+            → (ps : List ℕ) → All (λ p. p < i) ps → BelongAll ts (toParts (map val ps)) (map (typeAt ts (g .rows)) ps)
         parts ih [] none = tt
         parts ih (p ∷ ps) (more b bs) = (ih p (omega arith) (omega arith), parts ih ps bs)
 
-        go : ((j : ℕ) → j < n → j < length (g .rows) → Belongs (g .types) (termValue g ρ j) (typeAt (g .types) (g .rows) j))
-            → (w : Row) → rowAt (g .rows) i ≡ w → Belongs (g .types) (termValue g ρ i) (typeOf (g .types) w)
+        go : ((j : ℕ) → j < n → j < length (g .rows) → Belongs ts (val j) (typeAt ts (g .rows) j))
+            → (w : Row) → rowAt (g .rows) i ≡ w → Belongs ts (val i) (typeOf ts w)
         go ih (variable t) e = rw (row-equation i (variable t) l e) (assigns .belongs i t e)
         go ih (constant t z) e = rw (row-equation i (constant t z) l e) (refl, row-fit limits sup g ok i (constant t z) l e .1)
         go ih (built t v ps) e =
-            let f : RowFits (g .types) (g .rows) i (built t v ps) = row-fit limits sup g ok i (built t v ps) l e in
-            rw (row-equation i (built t v ps) l e) (refl, f .1, subst (BelongAll (g .types) (toParts (map (termValue g ρ) ps))) (f .3) (parts ih ps (f .2)))
+            let f : RowFits ts (g .rows) i (built t v ps) = row-fit limits sup g ok i (built t v ps) l e in
+            rw (row-equation i (built t v ps) l e) (refl, f .1, subst (BelongAll ts (toParts (map val ps))) (f .3) (parts ih ps (f .2)))
         go ih (field t a v p) e =
-            let f : RowFits (g .types) (g .rows) i (field t a v p) = row-fit limits sup g ok i (field t a v p) l e in
+            let f : RowFits ts (g .rows) i (field t a v p) = row-fit limits sup g ok i (field t a v p) l e in
             rw (row-equation i (field t a v p) l e)
-            (read-belongs (termValue g ρ a) t v p (f .2) (f .3) (subst (Belongs (g .types) (termValue g ρ a)) (f .1) (ih a (omega (arith, f .0)) (omega (arith, f .0)))))
+            (read-belongs (val a) t v p (f .2) (f .3) (subst (Belongs ts (val a)) (f .1) (ih a (omega (arith, f .0)) (omega (arith, f .0)))))
 
-    pub row-belongs : (i : ℕ) → i < length (g .rows) → Belongs (g .types) (termValue g ρ i) (typeAt (g .types) (g .rows) i)
+    pub row-belongs : (i : ℕ) → i < length (g .rows) → Belongs ts (val i) (typeAt ts (g .rows) i)
     row-belongs i h = rows-below (suc i) i (omega arith) h
 
     -- the term that a field row reads
-    pub read-term-belongs : (i t a v p : ℕ) → i < length (g .rows) → rowAt (g .rows) i ≡ field t a v p → Belongs (g .types) (termValue g ρ a) t
+    pub read-term-belongs : (i t a v p : ℕ) → i < length (g .rows) → rowAt (g .rows) i ≡ field t a v p → Belongs ts (val a) t
     read-term-belongs i t a v p h e =
-        let f : RowFits (g .types) (g .rows) i (field t a v p) = row-fit limits sup g ok i (field t a v p) h e in
-        subst (Belongs (g .types) (termValue g ρ a)) (f .1) (row-belongs a (omega (arith, f .0)))
+        let f : RowFits ts (g .rows) i (field t a v p) = row-fit limits sup g ok i (field t a v p) h e in
+        subst (Belongs ts (val a)) (f .1) (row-belongs a (omega (arith, f .0)))
 
-    pair-belongs : (ps fs : List ℕ) → BelongAll (g .types) (toParts (map (termValue g ρ) ps)) fs → (x : Term) → List·Memᴰ x (pairTerms ps fs) → Belongs (g .types) (termValue g ρ (x .term)) (x .type)
-    pair-belongs (p ∷ ps) (f ∷ fs) b x (List·Memᴰ·head e) = subst (λ (y : Term). Belongs (g .types) (termValue g ρ (y .term)) (y .type)) (sym e) (b .0)
+    pair-belongs : (ps fs : List ℕ) → BelongAll ts (toParts (map val ps)) fs → (x : Term) → List·Memᴰ x (pairTerms ps fs) → Belongs ts (val (x .term)) (x .type)
+    pair-belongs (p ∷ ps) (f ∷ fs) b x (List·Memᴰ·head e) = subst (λ (y : Term). Belongs ts (val (y .term)) (y .type)) (sym e) (b .0)
     pair-belongs (p ∷ ps) (f ∷ fs) b x (List·Memᴰ·tail m) = pair-belongs ps fs (b .1) x m
 
     sibling-belongs : (i t a v p : ℕ) → i < length (g .rows) → rowAt (g .rows) i ≡ field t a v p
-        → (x : Term) → List·Memᴰ x (pairTerms (fieldTerms i p 0 (siblingTerm i) (fieldsOf (g .types) t v)) (fieldsOf (g .types) t v)) → Belongs (g .types) (termValue g ρ (x .term)) (x .type)
+        → (x : Term) → List·Memᴰ x (pairTerms (fieldTerms i p 0 (siblingTerm i) (fieldsOf ts t v)) (fieldsOf ts t v)) → Belongs ts (val (x .term)) (x .type)
     sibling-belongs i t a v p h e =
-        pair-belongs (fieldTerms i p 0 (siblingTerm i) (fieldsOf (g .types) t v)) (fieldsOf (g .types) t v)
+        pair-belongs (fieldTerms i p 0 (siblingTerm i) (fieldsOf ts t v)) (fieldsOf ts t v)
         (rw (read-fields i t a v p h e)
-        (belong-all (g .types) (map at (from (length (fieldsOf (g .types) t v)) 0)) (fieldsOf (g .types) t v) (map-from-length at (length (fieldsOf (g .types) t v)) 0)
-        (λ k hk. rw (map-from-at at (length (fieldsOf (g .types) t v)) 0 k noMessage hk, zero-add k)
-        (read-belongs (termValue g ρ a) t v k (row-fit limits sup g ok i (field t a v p) h e .2) hk (read-term-belongs i t a v p h e)))))
+        (belong-all ts (map at (from (length (fieldsOf ts t v)) 0)) (fieldsOf ts t v) (map-from-length at (length (fieldsOf ts t v)) 0)
+        (λ k hk. rw (map-from-at at (length (fieldsOf ts t v)) 0 k noMessage hk, zero-add k)
+        (read-belongs (val a) t v k (row-fit limits sup g ok i (field t a v p) h e .2) hk (read-term-belongs i t a v p h e)))))
       where
         at : ℕ → Message
-        at q = readField (g .types) t v q (termValue g ρ a)
+        at q = readField ts t v q (val a)
 
-    pub term-belongs : (x : Term) → List·Memᴰ x ((tableOf g) .terms) → Belongs (g .types) (termValue g ρ (x .term)) (x .type)
+    pub term-belongs : (x : Term) → List·Memᴰ x ((tableOf g) .terms) → Belongs ts (val (x .term)) (x .type)
     term-belongs =
-        term-inv g (λ x. Belongs (g .types) (termValue g ρ (x .term)) (x .type)) row-belongs
-        (read-inv g (λ r. (x : Term) → List·Memᴰ x (pairTerms (r .fields) (fieldsOf (g .types) (r .type) (r .variant))) → Belongs (g .types) (termValue g ρ (x .term)) (x .type)) sibling-belongs)
+        term-inv g (λ x. Belongs ts (val (x .term)) (x .type)) row-belongs
+        (read-inv g (λ r. (x : Term) → List·Memᴰ x (pairTerms (r .fields) (fieldsOf ts (r .type) (r .variant))) → Belongs ts (val (x .term)) (x .type)) sibling-belongs)
         (λ t h. rw (value-default g ρ t) (default-of-belongs t h))

@@ -14,8 +14,6 @@ use mathlib.Core.Option.{none, some}
 use Rattle.laws.specs.Lists.{from}
 use Rattle.laws.proofs.Bools.{by-test}
 use Rattle.laws.proofs.Lists.{map-length}
-use Rattle.guard.specs.Closure.{constants, reads, single}
-use Rattle.guard.specs.File.{parts, rows, types, variant}
 use Rattle.guard.specs.Guard.{Guard, Row.built, Row.constant, Row.field, rowAt}
 use Rattle.guard.specs.Limits.{Limits, Supported, variantLimit}
 use Rattle.guard.specs.Meaning.{Assigns, Belongs, IsVariant, readField}
