@@ -13,8 +13,9 @@ use Rattle.laws.proofs.Stores.{ends}
 use Rattle.guard.specs.Closure.{fresh}
 use Rattle.guard.specs.Message.{Message, Message.made, Message.number, Parts.nil, Parts.part, partAt, toParts}
 use Rattle.guard.specs.Shown.{messageType}
+use Rattle.guard.proofs.MessageLaws.{messageSize, size-part}
 use Rattle.growth.proofs.Injective.{Kind, Kind.const, Kind.free, Kind.node, Leaf}
-use Rattle.growth.proofs.Paths.{down, end, end-down, end-next, messageSize, next, size-part}
+use Rattle.growth.proofs.Paths.{down, end, end-down, end-next, next}
 
 abbrev pub fill : (ℕ → Message) → List ℕ → ℕ → Message → List Message
 fill def [] p m = []

@@ -11,7 +11,8 @@ use lib.IntN.{ℤ}
 use Rattle.laws.specs.All.{All, All.more}
 use Rattle.laws.proofs.Lists.{all-getD, map-length}
 use Rattle.guard.specs.Message.{Message, Message.made, Message.number, partAt, toParts}
-use Rattle.growth.proofs.Paths.{down, messageSize, next, partSizes, parts-eq, size-part}
+use Rattle.guard.proofs.MessageLaws.{messageSize, partSizes, parts-eq, size-part}
+use Rattle.growth.proofs.Paths.{down, next}
 
 -- ---- an open structure: what each class is, and its message
 pub data Kind : Type 0 where
@@ -79,7 +80,11 @@ module _ (at : ℕ → ℕ → ℕ) (fields : ℕ → ℕ → List ℕ) (In : �
             let s : next at (val c) ≡ val q = step fits in
             let smaller : messageSize (val q) < messageSize (val c) = shrinks fits in
             record {
-              class = b .class; steps = suc (b .steps); isIn = b .isIn; leaf = b .leaf; short = omega (arith, b .short);
+              class = b .class;
+              steps = suc (b .steps);
+              isIn = b .isIn;
+              leaf = b .leaf;
+              short = omega (arith, b .short);
               there = b .there ∙ ap (down at (b .steps)) (sym s);
               less = inr (under (b .less) smaller);
             }

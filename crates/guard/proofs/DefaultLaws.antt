@@ -1,7 +1,7 @@
--- Defaults: what a round gives, that a default stays, and induction over how defaults arise. Assumes nothing.
+-- Defaults: what a round gives, that a default stays, induction over how defaults arise, and the form of a default. Assumes nothing.
 use mathlib.Core.Path.{_≡_, refl, ap, sym, _∙_, subst}
 use mathlib.Core.Bool.{Bool, true, false}
-use mathlib.Core.List.{List, [], _∷_}
+use mathlib.Core.List.{List, [], _∷_, map}
 use Prim.Native.Nat.{ℕ, zero, suc, _+_, _≤_, _<_, _-_}
 use native.Mathlib.Omega.{arith}
 use lib.Dec.{eqb, ltb}
@@ -11,10 +11,9 @@ use mathlib.Core.Option.{Option, none, some}
 use lib.IntN.{pos}
 use native.Mathlib.Nat.{zero-add}
 use Rattle.laws.proofs.Lists.{map-from-at, map-from-out, none-some}
-use Rattle.guard.specs.File.{parts}
 use Rattle.guard.specs.Meaning.{BelongAll, Belongs}
 use Rattle.guard.specs.Message.{Message, Message.made, Message.number, toParts}
-use Rattle.guard.specs.Types.{Defaults, Types, Variant, consBoth, defaultRounds, defaults, defaultsOf, fieldsOf, firstDefault, lowestReady, nextDefault, variantsOf}
+use Rattle.guard.specs.Types.{Defaults, Types, Variant, consBoth, defaultOf, defaultRounds, defaults, defaultsOf, fieldsOf, firstDefault, lowestReady, nextDefault, orNone, variantsOf}
 
 module _ (ts : Types) where
   -- only a type of the list has a default
@@ -124,3 +123,20 @@ default-belongs ts =
     parts-belong : {fs : List ℕ} {ms : List Message} → Each (λ t m. Belongs ts m t) fs ms → BelongAll ts (toParts ms) fs
     parts-belong each-nil = tt
     parts-belong (each-cons p ps) = (p, parts-belong ps)
+
+-- a default is the number 0, or a variant over the defaults of its fields
+abbrev pub DefaultForm : Types → ℕ → Message → Type 0
+DefaultForm ts t (number u z) = number u z ≡ number t (pos 0)
+DefaultForm ts t (made u v ms) = made u v ms ≡ made t v (toParts (map (defaultOf ts) (fieldsOf ts t v)))
+
+pub default-is : (ts : Types) (t : ℕ) (m : Message) → getD (defaults ts) t none ≡ some m → defaultOf ts t ≡ m
+default-is ts t m e = ap orNone e
+
+pub default-form : (ts : Types) (t : ℕ) (m : Message) → getD (defaults ts) t none ≡ some m → DefaultForm ts t m
+default-form ts t m e =
+    default-ind ts (λ t m. (defaultOf ts t ≡ m) × DefaultForm ts t m) (λ t h q d. (default-is ts t (number t (pos 0)) d, refl))
+    (λ t v ms h hv d ps. (default-is ts t (made t v (toParts ms)) d, ap (λ (ns : List Message). made t v (toParts ns)) (sym (fields-are ps)))) t m e .1
+  where
+    fields-are : {fs : List ℕ} {ms : List Message} → Each (λ t m. (defaultOf ts t ≡ m) × DefaultForm ts t m) fs ms → map (defaultOf ts) fs ≡ ms
+    fields-are each-nil = refl
+    fields-are (each-cons {f = f} {m = m} {fs = fs} {ms = ms} p ps) = let a : defaultOf ts f ≡ m = p .0 in let b : map (defaultOf ts) fs ≡ ms = fields-are ps in cc

@@ -4,6 +4,7 @@ pub mod ClosureState
 pub mod LeastClosure
 pub mod Reading
 pub mod Accepted
+pub mod MessageLaws
 pub mod DefaultLaws
 pub mod TableLaws
 pub mod NodeLaws

@@ -81,9 +81,14 @@ module _ (t : Table) (range : InRange t) where
       beside w mw ne =
           let (hv, lv) = left v mv in
           let (hw, lw) = left w mw in
-          record { type = x .type; term = m; variant = hv; another = and-both (not (lacks (S ls) (x .term) v)) _ lv
-              (ap not (ne-eqb (labelOf (S ls) (x .term)) (2 ^ v) (λ z. eqb-false (bit (labelOf (S ls) (x .term)) w) 0 (not-true _ lw)
-              (ap (λ (l : ℕ). bit l w) z ∙ bit-pow v w hv hw ne)))) }
+          record {
+            type = x .type;
+            term = m;
+            variant = hv;
+            another = and-both (not (lacks (S ls) (x .term) v)) _ lv
+                (ap not (ne-eqb (labelOf (S ls) (x .term)) (2 ^ v) (λ z. eqb-false (bit (labelOf (S ls) (x .term)) w) 0 (not-true _ lw)
+                (ap (λ (l : ℕ). bit l w) z ∙ bit-pow v w hv hw ne))));
+          }
 
       go : (vs : List ℕ) → variantsLeft t (S ls) x ≡ vs → 2 ≤ length vs → SplitsAt t (S ls) (record { term = x .term; variant = v })
       go [] q h = absurd (omega arith)

@@ -9,7 +9,7 @@ use native.Mathlib.Omega.{arith}
 use lib.Dec.{eqb}
 use lib.ListN.{length, getD}
 use borrow.Author.Tests.{eqb-true, eqb-false}
-use Rattle.laws.specs.Lists.{all, any, when, consIf, filter, find, concatMap, from, sum}
+use Rattle.laws.specs.Lists.{all, any, when, consIf, filter, find, concatMap, from, member, union, sum}
 use Rattle.laws.specs.All.{All, All.none, All.more}
 
 pub none-some : {A : Type 0} (a : A) → Path (Option A) none (some a) → ⊥
@@ -75,6 +75,11 @@ module _ {A : Type 0} {P : A → Type 0} where
 pub all-map-inv : {A B : Type 0} {P : A → Type 0} (f : B → A) (ys : List B) → All P (map f ys) → (y : B) → List·Memᴰ y ys → P (f y)
 all-map-inv {P = P} f (z ∷ ys) (more p ps) y (List·Memᴰ·head e) = subst (λ w. P (f w)) (sym e) p
 all-map-inv f (z ∷ ys) (more p ps) y (List·Memᴰ·tail m) = all-map-inv f ys ps y m
+
+-- what holds of the elements of both lists holds of those of their union
+pub all-union : {P : ℕ → Type 0} (xs ys : List ℕ) → All P xs → All P ys → All P (union xs ys)
+all-union [] ys none q = q
+all-union (x ∷ xs) ys (more p ps) q = all-union xs (consIf (not (member x ys)) x ys) ps (all-consIf (not (member x ys)) x ys p q)
 
 pub all-weaken : {A : Type 0} {P Q : A → Type 0} {xs : List A} → ((x : A) → P x → Q x) → All P xs → All Q xs
 all-weaken f none = none
@@ -223,6 +228,10 @@ module _ {A : Type 0} where
   map-from-out f zero a k d h = refl
   map-from-out f (suc n) a zero d h = absurd (omega arith)
   map-from-out f (suc n) a (suc k) d h = map-from-out f n (suc a) k d (omega arith)
+
+  pub map-from-suc : (f : ℕ → A) (n a : ℕ) → map f (from n (suc a)) ≡ map (λ k. f (suc k)) (from n a)
+  map-from-suc f zero a = refl
+  map-from-suc f (suc n) a = ap (λ (xs : List A). f (suc a) ∷ xs) (map-from-suc f n (suc a))
 
   pub map-from-length : (f : ℕ → A) (n a : ℕ) → length (map f (from n a)) ≡ n
   map-from-length f zero a = refl

@@ -1,0 +1,3 @@
+pub mod TermValues
+pub mod ValuesObey
+pub mod ClosedDead
