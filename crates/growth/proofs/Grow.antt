@@ -9,8 +9,6 @@ use native.Mathlib.Omega.{arith}
 use lib.ListN.{length, getD}
 use lib.IntN.{ℤ}
 use Rattle.laws.proofs.Lists.{map-length}
-use Rattle.laws.proofs.Stores.{ends}
-use Rattle.guard.specs.Closure.{fresh}
 use Rattle.guard.specs.Message.{Message, Message.made, Message.number, Parts.nil, Parts.part, partAt, toParts}
 use Rattle.guard.specs.Shown.{messageType}
 use Rattle.guard.proofs.MessageLaws.{messageSize, size-part}

@@ -19,7 +19,6 @@ use Rattle.guard.specs.Guard.{Guard, Literal, Literal.equal, Literal.is,
 use Rattle.guard.specs.Limits.{Limits, Supported, fieldLimit, totalVariantLimit, variantLimit}
 use Rattle.guard.specs.Message.{Message}
 use Rattle.guard.specs.Number.{Parsed.accepted, _>>_, ask, return, times, unfoldSigned, unsigned, width32}
-use Rattle.guard.specs.Terms.{termCount}
 use Rattle.guard.specs.Types.{Defaults, Types, Variant, allDefaults, defaultRounds, defaults, fieldsOf, firstDefault, infiniteFields, isNumber, isSome, nextDefault, variantsOf}
 use Rattle.guard.specs.WellFormed.{LiteralFits, RowFits, WellFormed}
 use Rattle.guard.proofs.Reading.{Ends, Reads, ends-bind, fold-unfold, reads-asked, reads-bind, reads-return, reads-times, reads-unsigned, reads-weaken}

@@ -1,5 +1,5 @@
--- The answer and the budget. Assumes nothing.
--- SPENT is said exactly if the budget is below the node count; else the verdict, with that count
+-- The answer and the budget: SPENT is said exactly if the budget is below the node count; else the verdict, with that
+-- count. Assumes nothing.
 use mathlib.Core.Path.{_≡_, ap, sym, _∙_}
 use mathlib.Core.Bool.{Bool}
 use mathlib.Core.List.{List}
@@ -9,7 +9,7 @@ use lib.Dec.{leb}
 use borrow.Author.Tests.{leb-true, leb-false, le-leb, lt-leb}
 use mathlib.Core.Logic.{_↔_}
 use Rattle.laws.proofs.Bools.{and-both, by-test}
-use Rattle.guard.specs.Answer.{Outcome, Outcome.refusal, Outcome.spent, afterBuffers, afterFile, outcome, verdict, withBudget}
+use Rattle.guard.specs.Answer.{Outcome, Outcome.refusal, Outcome.spent, afterBuffers, afterQuestions, outcome, questions, verdict, withBudget}
 use Rattle.guard.specs.File.{file}
 use Rattle.guard.specs.Guard.{Guard}
 use Rattle.guard.specs.Limits.{Limits, placeBuffer, rowBuffer}
@@ -43,19 +43,23 @@ module _ (limits : Limits) (bytes : List ℕ) (rowLength placeLength : ℕ) (row
   abbrev answer : ℕ → Outcome
   answer budget = outcome limits bytes budget rowLength placeLength
 
-  -- with buffers long enough the answer is the file's
-  pub long-buffers : (budget : ℕ) → outcome limits bytes budget rowLength placeLength ≡ afterFile budget (file limits bytes)
+  -- with buffers long enough the questions are the file's
+  pub long-buffers : questions limits bytes rowLength placeLength ≡ file limits bytes
+  unfolding questions
+  long-buffers =
+      ap (λ (b : Bool). afterBuffers b limits bytes) (and-both (leb (rowBuffer limits) rowLength) (leb (placeBuffer limits) placeLength) (le-leb _ _ rowsFit) (le-leb _ _ placesFit))
+
+  answer-after : (budget : ℕ) → answer budget ≡ afterQuestions budget (file limits bytes)
   unfolding outcome
-  long-buffers budget =
-      ap (λ (b : Bool). afterBuffers b limits bytes budget) (and-both (leb (rowBuffer limits) rowLength) (leb (placeBuffer limits) placeLength) (le-leb _ _ rowsFit) (le-leb _ _ placesFit))
+  answer-after budget = ap (afterQuestions budget) long-buffers
 
   -- a refused file is refused with its question's number, whatever the budget
   pub refused-always : (q budget : ℕ) → file limits bytes ≡ refused q → answer budget ≡ refusal q
-  refused-always q budget e = long-buffers budget ∙ ap (afterFile budget) e
+  refused-always q budget e = answer-after budget ∙ ap (afterQuestions budget) e
 
   module _ (g : Guard) (rest : List ℕ) (taken : file limits bytes ≡ accepted g rest) where
     pub accepted-answer : (budget : ℕ) → answer budget ≡ withBudget budget (searchOf g)
-    accepted-answer budget = long-buffers budget ∙ ap (afterFile budget) taken
+    accepted-answer budget = answer-after budget ∙ ap (afterQuestions budget) taken
 
     -- "SPENT is given precisely if the walk would visit more nodes than the budget."
     pub spent-below-count : (budget : ℕ) → ((b : ℕ) × (answer budget ≡ spent b)) ↔ (budget < nodeCount g)

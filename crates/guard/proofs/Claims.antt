@@ -5,7 +5,7 @@ use Prim.Native.Nat.{ℕ, _≤_, _<_}
 use native.Mathlib.Omega.{arith}
 use lib.ListN.{length}
 use Rattle.guard.specs.Closure.{LacksAt, SameAt, closureOf}
-use Rattle.guard.specs.File.{file, types}
+use Rattle.guard.specs.File.{file}
 use Rattle.guard.specs.Guard.{Guard, Literal}
 use Rattle.guard.specs.Limits.{Limits, Supported, base}
 use Rattle.guard.specs.Number.{Parsed.accepted}

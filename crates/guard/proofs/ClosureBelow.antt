@@ -1,5 +1,6 @@
--- The closure is below all pair of relations that obeys the rules. Assumes noMessage.
--- ---- a property of all element
+-- The closure is inside every pair of relations that obeys the rules. A state is true of such a pair (`Sound`) if equal
+-- classes are `Same` and missing bits are `Lacks`. The initial state is; what is given and what the rules give is true
+-- too (`Valid`), so each fact that is added keeps the state true. Assumes nothing.
 use mathlib.Core.Path.{_≡_, refl, ap, sym, subst}
 use mathlib.Core.Bool.{Bool, true, false, not, _&&_, cond, false≢true}
 use mathlib.Core.List.{List, [], _∷_, foldl, List·Memᴰ, List·Memᴰ·head, List·Memᴰ·tail}
@@ -19,8 +20,7 @@ use Rattle.laws.proofs.Bools.{and-left, and-right, cond-ind, or-cases}
 use Rattle.laws.proofs.Lists.{all-append, all-concatMap, all-filter, all-map, all-mem, all-of, all-when, any-some, from-at}
 use Rattle.laws.proofs.Stores.{ends, set-cases}
 use Rattle.guard.specs.Closure.{Fact, Fact.same, Fact.within, LacksAt, SameAt, State, add, allVariants, alone, begin, buildsAt, builtRows, classOf, closureOf, consequences, constants, eqZ, everyVariant, fresh, given, holds, initial, labelOf, lacks, merge, mergeUnless, ofLiteral, oneVariant, pairwise, readAbsent, readBuild, reads, rename, sameAll, sameClass, sameClasses, saturate, single, size}
-use Rattle.guard.specs.File.{parts, types, variant}
-use Rattle.guard.specs.Guard.{Literal, Literal.equal, Literal.is, Literal.isnt, Literal.unequal, Row.built}
+use Rattle.guard.specs.Guard.{Literal, Literal.equal, Literal.is, Literal.isnt, Literal.unequal}
 use Rattle.guard.specs.Limits.{variantLimit}
 use Rattle.guard.specs.Rules.{AllSame, Alone, BuiltAt, BuiltAt.read, BuiltAt.row, ObeysLiterals, ObeysRules, Relation}
 use Rattle.guard.specs.Terms.{Build, Const, Read, Table, Term, asBuild, fieldless, termCount}
@@ -39,7 +39,6 @@ eqZ-true (pos a) (negsuc b) e = absurd (false≢true e)
 eqZ-true (negsuc a) (pos b) e = absurd (false≢true e)
 eqZ-true (negsuc a) (negsuc b) e = ap negsuc (eqb-true a b e)
 
--- ---- lists
 pub rename-at : (low high : ℕ) (l : List ℕ) (i : ℕ) → low ≤ high → getD (rename low high l) i 0 ≡ cond (eqb (getD l i 0) high) low (getD l i 0)
 rename-at low high [] i h = go (eqb 0 high) refl
   where
@@ -87,8 +86,8 @@ module _ (t : Table) (ls : List Literal) (ranged : InRange t) (literalsIn : Lite
     same-valid-at i j hi hj e =
         o .through (ok .class i hi) (subst (λ (c : ℕ). Same c j) (sym e) (o .back (ok .class j hj)))
 
-    alike-same : (i j : ℕ) → i < termCount → j < termCount → sameClass s i j ≡ true → Same i j
-    alike-same i j hi hj e = same-valid-at i j hi hj (eqb-true _ _ e)
+    class-same : (i j : ℕ) → i < termCount → j < termCount → sameClass s i j ≡ true → Same i j
+    class-same i j hi hj e = same-valid-at i j hi hj (eqb-true _ _ e)
 
     lacks-valid : (i v : ℕ) → i < termCount → v < variantLimit → bit (labelOf s i) v ≡ 0 → Lacks i v
     lacks-valid i v hi hv e = o .shared (o .back (ok .class i hi)) (ok .label (classOf s i) v (ok .range i hi) hv e)
@@ -100,13 +99,13 @@ module _ (t : Table) (ls : List Literal) (ranged : InRange t) (literalsIn : Lite
         L : List ℕ
         L = set (s .labels) (classOf s i) (bitAnd (labelOf s i) m)
 
-        consBoth : (v : ℕ) → v < variantLimit → (bit (labelOf s i) v ≡ 0) ⊎ (bit m v ≡ 0) → Lacks (classOf s i) v
-        consBoth v hv (inl e) = ok .label (classOf s i) v (ok .range i hi) hv e
-        consBoth v hv (inr e) = o .shared (ok .class i hi) (f v hv e)
+        cut-either : (v : ℕ) → v < variantLimit → (bit (labelOf s i) v ≡ 0) ⊎ (bit m v ≡ 0) → Lacks (classOf s i) v
+        cut-either v hv (inl e) = ok .label (classOf s i) v (ok .range i hi) hv e
+        cut-either v hv (inr e) = o .shared (ok .class i hi) (f v hv e)
 
         go : (c v : ℕ) → c < termCount → v < variantLimit → (getD L c 0 ≡ getD (s .labels) c 0) ⊎ ((c ≡ classOf s i) × (getD L c 0 ≡ bitAnd (labelOf s i) m)) → bit (getD L c 0) v ≡ 0 → Lacks c v
         go c v hc hv (inl q) e = ok .label c v hc hv (rw q at e)
-        go c v hc hv (inr q) e = subst (λ (x : ℕ). Lacks x v) (sym (q .0)) (consBoth v hv (and-missing (labelOf s i) m v (rw (q .1) at e)))
+        go c v hc hv (inr q) e = subst (λ (x : ℕ). Lacks x v) (sym (q .0)) (cut-either v hv (and-missing (labelOf s i) m v (rw (q .1) at e)))
 
     -- the two classes, as the lower and the higher
     low-high : (c d : ℕ) → Same c d → Same (min c d) (max c d)
@@ -155,16 +154,16 @@ module _ (t : Table) (ls : List Literal) (ranged : InRange t) (literalsIn : Lite
         moved : (k : ℕ) → k < termCount → getD (s .classes) k 0 ≡ high → Same k low
         moved k hk q = o .through (subst (λ (x : ℕ). Same k x) q (ok .class k hk)) (o .back (low-high c d c-d))
 
-        consBoth : (v : ℕ) → v < variantLimit → (bit (getD (s .labels) c 0) v ≡ 0) ⊎ (bit (getD (s .labels) d 0) v ≡ 0) → Lacks low v
-        consBoth v hv (inl q) = o .shared c-low (ok .label c v (ok .range i hi) hv q)
-        consBoth v hv (inr q) = o .shared c-low (o .shared (o .back c-d) (ok .label d v (ok .range j hj) hv q))
+        cut-either : (v : ℕ) → v < variantLimit → (bit (getD (s .labels) c 0) v ≡ 0) ⊎ (bit (getD (s .labels) d 0) v ≡ 0) → Lacks low v
+        cut-either v hv (inl q) = o .shared c-low (ok .label c v (ok .range i hi) hv q)
+        cut-either v hv (inr q) = o .shared c-low (o .shared (o .back c-d) (ok .label d v (ok .range j hj) hv q))
 
         L : List ℕ
         L = set (s .labels) low (bitAnd (getD (s .labels) c 0) (getD (s .labels) d 0))
 
         labels : (k v : ℕ) → k < termCount → v < variantLimit → (getD L k 0 ≡ getD (s .labels) k 0) ⊎ ((k ≡ low) × (getD L k 0 ≡ bitAnd (getD (s .labels) c 0) (getD (s .labels) d 0))) → bit (getD L k 0) v ≡ 0 → Lacks k v
         labels k v hk hv (inl q) z = ok .label k v hk hv (rw q at z)
-        labels k v hk hv (inr q) z = subst (λ (x : ℕ). Lacks x v) (sym (q .0)) (consBoth v hv (and-missing (getD (s .labels) c 0) (getD (s .labels) d 0) v (rw (q .1) at z)))
+        labels k v hk hv (inr q) z = subst (λ (x : ℕ). Lacks x v) (sym (q .0)) (cut-either v hv (and-missing (getD (s .labels) c 0) (getD (s .labels) d 0) v (rw (q .1) at z)))
 
     unite-sound : (i j : ℕ) → i < termCount → j < termCount → Same i j → (b : Bool) → Sound (mergeUnless b s (classOf s i) (classOf s j))
     unite-sound i j hi hj e true = ok
@@ -190,11 +189,11 @@ module _ (t : Table) (ls : List Literal) (ranged : InRange t) (literalsIn : Lite
         go (inl q) = rw (eqb-true (labelOf s i) (2 ^ v) q) (bit-pow v u hv hu n)
         go (inr q) = rw (eqb-true (labelOf s i) 0 q) (bit-zero u)
 
-    all-alike : (ps qs : List ℕ) → All In ps → All In qs → sameClasses s ps qs ≡ true → AllSame Same ps qs
-    all-alike [] qs hp hq e = tt
-    all-alike (p ∷ ps) [] hp hq e = tt
-    all-alike (p ∷ ps) (q ∷ qs) (more hp hps) (more hq hqs) e =
-        (alike-same s ok p q hp hq (and-left (sameClass s p q) (sameClasses s ps qs) e), all-alike ps qs hps hqs (and-right (sameClass s p q) (sameClasses s ps qs) e))
+    classes-same : (ps qs : List ℕ) → All In ps → All In qs → sameClasses s ps qs ≡ true → AllSame Same ps qs
+    classes-same [] qs hp hq e = tt
+    classes-same (p ∷ ps) [] hp hq e = tt
+    classes-same (p ∷ ps) (q ∷ qs) (more hp hps) (more hq hqs) e =
+        (class-same s ok p q hp hq (and-left (sameClass s p q) (sameClasses s ps qs) e), classes-same ps qs hps hqs (and-right (sameClass s p q) (sameClasses s ps qs) e))
 
     all-same : (ps qs : List ℕ) → All In ps → All In qs → AllSame Same ps qs → All Valid (sameAll ps qs)
     all-same [] qs hp hq e = none
@@ -228,9 +227,9 @@ module _ (t : Table) (ls : List Literal) (ranged : InRange t) (literalsIn : Lite
         let ev : a .variant ≡ b .variant = eqb-true _ _ (and-right (eqb (a .type) (b .type)) (eqb (a .variant) (b .variant)) e) in
         all-append
         (all-when (sameClasses s (a .parts) (b .parts)) (same (a .term) (b .term) ∷ [])
-        (λ q. one (a .term) (b .term) (fa .term) (fb .term) (o .congruent a b (fa .at) (fb .at) et ev (all-alike (a .parts) (b .parts) (fa .parts) (fb .parts) q))))
+        (λ q. one (a .term) (b .term) (fa .term) (fb .term) (o .congruent a b (fa .at) (fb .at) et ev (classes-same (a .parts) (b .parts) (fa .parts) (fb .parts) q))))
         (all-when (sameClass s (a .term) (b .term)) (sameAll (a .parts) (b .parts))
-        (λ q. all-same (a .parts) (b .parts) (fa .parts) (fb .parts) (o .parts a b (fa .at) (fb .at) et ev (alike-same s ok (a .term) (b .term) (fa .term) (fb .term) q)))))
+        (λ q. all-same (a .parts) (b .parts) (fa .parts) (fb .parts) (o .parts a b (fa .at) (fb .at) et ev (class-same s ok (a .term) (b .term) (fa .term) (fb .term) q)))))
 
     reads-valid : (a b : Read) → List·Memᴰ a (t .reads) → List·Memᴰ b (t .reads) → All Valid (reads s a b)
     reads-valid a b ma mb =
@@ -238,7 +237,7 @@ module _ (t : Table) (ls : List Literal) (ranged : InRange t) (literalsIn : Lite
         one (a .row) (b .row) (ranged .reads a ma .0) (ranged .reads b mb .0)
         (o .reads a b ma mb (eqb-true _ _ (and-left e1 _ e)) (eqb-true _ _ (and-left e2 (e3 && e4) (and-right e1 (e2 && (e3 && e4)) e)))
         (eqb-true _ _ (and-left e3 e4 (and-right e2 (e3 && e4) (and-right e1 (e2 && (e3 && e4)) e))))
-        (alike-same s ok (a .term) (b .term) (ranged .reads a ma .1) (ranged .reads b mb .1) (and-right e3 e4 (and-right e2 (e3 && e4) (and-right e1 (e2 && (e3 && e4)) e))))))
+        (class-same s ok (a .term) (b .term) (ranged .reads a ma .1) (ranged .reads b mb .1) (and-right e3 e4 (and-right e2 (e3 && e4) (and-right e1 (e2 && (e3 && e4)) e))))))
       where
         e1 : Bool
         e1 = eqb (a .type) (b .type)

@@ -1,5 +1,4 @@
--- The rounds end: at the closure no rule gives a new fact. Assumes noMessage.
--- one class, renamed
+-- The rounds end: each new fact makes the state smaller, so at the closure no rule gives a new fact. Assumes nothing.
 use mathlib.Core.Path.{_≡_, refl}
 use mathlib.Core.Bool.{Bool, true, false, not, cond}
 use mathlib.Core.List.{List, [], _∷_, foldl}
@@ -16,6 +15,7 @@ use Rattle.guard.specs.Closure.{Fact, Fact.same, Fact.within, State, add
 use Rattle.guard.specs.Guard.{Literal}
 use Rattle.guard.specs.Terms.{Table}
 
+-- one class, renamed
 renamed-le : (low high c : ℕ) → low ≤ high → cond (eqb c high) low c ≤ c
 renamed-le low high c h = go (eqb c high) refl
   where

@@ -1,5 +1,5 @@
--- The closure obeys the rules. Assumes noMessage.
--- `s′` says all that `s` says
+-- Adding facts to a state: what the state says stays said, what is added is said, and labels stay masks of 16 bits. So the
+-- closure says all that is given and all that the rules give. Assumes nothing.
 use mathlib.Core.Path.{_≡_, refl, ap, sym, _∙_, subst}
 use mathlib.Core.Bool.{Bool, true, false, not, cond}
 use mathlib.Core.List.{List, [], _∷_, foldl}
@@ -23,6 +23,7 @@ use Rattle.guard.specs.Terms.{Table, termCount}
 use Rattle.guard.proofs.ClosureBelow.{rename-at}
 use Rattle.guard.proofs.ClosureEnds.{adds-ind, closed-under, saturate-ind}
 
+-- `s′` says all that `s` says
 record Keeps (s s′ : State) : Type 0 where
   class : (i j : ℕ) → classOf s i ≡ classOf s j → classOf s′ i ≡ classOf s′ j
   label : (i v : ℕ) → bit (labelOf s i) v ≡ 0 → bit (labelOf s′ i) v ≡ 0

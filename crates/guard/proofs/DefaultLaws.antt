@@ -11,6 +11,7 @@ use mathlib.Core.Option.{Option, none, some}
 use lib.IntN.{pos}
 use native.Mathlib.Nat.{zero-add}
 use Rattle.laws.proofs.Lists.{map-from-at, map-from-out, none-some}
+use Rattle.guard.specs.File.{parts}
 use Rattle.guard.specs.Meaning.{BelongAll, Belongs}
 use Rattle.guard.specs.Message.{Message, Message.made, Message.number, toParts}
 use Rattle.guard.specs.Types.{Defaults, Types, Variant, consBoth, defaultOf, defaultRounds, defaults, defaultsOf, fieldsOf, firstDefault, lowestReady, nextDefault, orNone, variantsOf}

@@ -1,4 +1,5 @@
--- The closure obeys the rules. Assumes noMessage.
+-- The closure obeys the rules: whatever they give at the closure holds there already. With ClosureBelow it is the least
+-- closure. Assumes nothing.
 use mathlib.Core.Path.{_≡_, refl, ap, sym, _∙_, subst}
 use mathlib.Core.Bool.{Bool, true, false, _&&_, false≢true}
 use mathlib.Core.List.{List, [], _∷_, _++_, map, List·Memᴰ, List·Memᴰ·head, List·Memᴰ·tail, Memᴰ·append-left, Memᴰ·append-right}
@@ -15,8 +16,7 @@ use Rattle.laws.proofs.Bits.{bit-pow, but-own, one-set, ones-past}
 use Rattle.laws.proofs.Bools.{and-both, or-left, or-right}
 use Rattle.laws.proofs.Lists.{all-left, all-map-inv, all-right, any-of, concatMap-inv, mem-concatMap, when-inv}
 use Rattle.guard.specs.Closure.{Fact, Fact.same, Fact.within, LacksAt, SameAt, State, allVariants, alone, buildsAt, builtRows, classOf, closureOf, consequences, constants, eqZ, everyVariant, given, holds, labelOf, lacks, ofLiteral, oneVariant, pairwise, readAbsent, readBuild, reads, sameAll, sameClass, sameClasses, single}
-use Rattle.guard.specs.File.{parts, types, variant}
-use Rattle.guard.specs.Guard.{Literal, Literal.equal, Literal.is, Literal.isnt, Row.built}
+use Rattle.guard.specs.Guard.{Literal, Literal.is, Literal.isnt}
 use Rattle.guard.specs.Limits.{variantLimit}
 use Rattle.guard.specs.Rules.{AllSame, Alone, BuiltAt, BuiltAt.read, BuiltAt.row, LeastClosure, ObeysLiterals, ObeysRules}
 use Rattle.guard.specs.Terms.{Build, Const, Read, Table, Term, asBuild, fieldless}
@@ -54,10 +54,10 @@ pairwise-inv P f (z ∷ ys) h x y (List·Memᴰ·tail m) (List·Memᴰ·head e) 
 pairwise-inv P f (z ∷ ys) h x y (List·Memᴰ·tail m) (List·Memᴰ·tail n) = pairwise-inv P f ys (all-right (concatMap (f z) ys) (pairwise f ys) h) x y m n
 
 -- ---- the closure obeys the rules
-all-alike-of : (s : State) (ps qs : List ℕ) → AllSame (SameAt s) ps qs → sameClasses s ps qs ≡ true
-all-alike-of s [] qs h = refl
-all-alike-of s (p ∷ ps) [] h = refl
-all-alike-of s (p ∷ ps) (q ∷ qs) h = rw (eq-eqb _ _ (h .0)) (all-alike-of s ps qs (h .1))
+classes-equal : (s : State) (ps qs : List ℕ) → AllSame (SameAt s) ps qs → sameClasses s ps qs ≡ true
+classes-equal s [] qs h = refl
+classes-equal s (p ∷ ps) [] h = refl
+classes-equal s (p ∷ ps) (q ∷ qs) h = rw (eq-eqb _ _ (h .0)) (classes-equal s ps qs (h .1))
 
 all-same-of : (s : State) (ps qs : List ℕ) → All (λ f. holds s f ≡ true) (sameAll ps qs) → AllSame (SameAt s) ps qs
 all-same-of s [] qs h = tt
@@ -146,7 +146,7 @@ module _ (t : Table) (ls : List Literal) (ranged : InRange t) (literalsIn : Lite
   congr a b et ev h ps = first-of S (a .term) (b .term)
       (when-inv (sameClasses S (a .parts) (b .parts)) (same (a .term) (b .term) ∷ [])
       (all-left (when (sameClasses S (a .parts) (b .parts)) (same (a .term) (b .term) ∷ [])) (when (sameClass S (a .term) (b .term)) (sameAll (a .parts) (b .parts))) (pair a b et ev h))
-      (all-alike-of S (a .parts) (b .parts) ps))
+      (classes-equal S (a .parts) (b .parts) ps))
 
   inj : (a b : Build) → a .type ≡ b .type → a .variant ≡ b .variant → All H (builtRows S a b) → SameAt S (a .term) (b .term) → AllSame (SameAt S) (a .parts) (b .parts)
   inj a b et ev h e = all-same-of S (a .parts) (b .parts)

@@ -11,3 +11,4 @@ pub mod NodeLaws
 pub mod SearchLaws
 pub mod AnswerLaws
 pub mod Claims
+pub mod ShownCase

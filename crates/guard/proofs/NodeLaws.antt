@@ -1,6 +1,5 @@
 -- A split cuts labels: from a node to each child every label stays or shrinks, and the label of the split term
 -- shrinks. So the total of the label sizes falls. Assumes nothing.
--- more literals, fewer obey them
 use mathlib.Core.Path.{_≡_, refl, ap, sym, _∙_, subst}
 use mathlib.Core.Bool.{true, not}
 use mathlib.Core.List.{List, [], _∷_, List·Memᴰ, List·Memᴰ·head, List·Memᴰ·tail}
@@ -17,8 +16,7 @@ use Rattle.laws.specs.Lists.{find, from}
 use Rattle.laws.proofs.Bits.{bit-pow, bit-zero, one-set, sub-less, sub-ones}
 use Rattle.laws.proofs.Bools.{and-both, and-left, and-right, by-test}
 use Rattle.laws.proofs.Lists.{filter-from-ordered, filter-is, find-some, from-bounds, none-some, sum-map-lt}
-use Rattle.guard.specs.Closure.{LacksAt, SameAt, State, closureOf, labelOf, lacks, reads}
-use Rattle.guard.specs.File.{types, variant}
+use Rattle.guard.specs.Closure.{LacksAt, SameAt, State, closureOf, labelOf, lacks}
 use Rattle.guard.specs.Guard.{Literal, Literal.is, Literal.isnt}
 use Rattle.guard.specs.Limits.{variantLimit}
 use Rattle.guard.specs.Node.{Split, firstKind, holdsAnother, onRead, onTerm, secondKind, splitOf, variantsLeft}
@@ -30,6 +28,7 @@ use Rattle.guard.proofs.ClosureBelow.{InRange, LiteralInRange, Literals
 use Rattle.guard.proofs.ClosureState.{closure-small}
 use Rattle.guard.proofs.LeastClosure.{closure-least}
 
+-- more literals, fewer obey them
 fewer : (d : Literal) (ls : List Literal) (Same Lacks : Relation) → ObeysLiterals (d ∷ ls) Same Lacks → ObeysLiterals ls Same Lacks
 fewer d ls Same Lacks o =
     record {

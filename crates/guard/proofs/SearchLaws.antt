@@ -1,6 +1,5 @@
 -- The search: its depth always suffices, it visits at least one node, and what a node's search is from its children's.
 -- Assumes nothing.
--- two ways to search the children that agree where there is a split give the same
 use mathlib.Core.Path.{_≡_, refl, ap, sym, _∙_, ap₂}
 use mathlib.Core.Bool.{Bool, true, false}
 use mathlib.Core.List.{List, _∷_}
@@ -9,7 +8,6 @@ use native.Mathlib.Omega.{arith}
 use mathlib.Core.Option.{Option, none, some}
 use native.Mathlib.Nat.{zero-add}
 use Rattle.guard.specs.Closure.{closureOf}
-use Rattle.guard.specs.File.{variant}
 use Rattle.guard.specs.Guard.{Guard, Literal, Literal.is, Literal.isnt}
 use Rattle.guard.specs.Node.{Split, isClosed, splitOf}
 use Rattle.guard.specs.Search.{Visits, Visits.closed, Visits.opened, children, labelTotal, node, nodeCount, plus, search, searchOf, searchTo, visits}
@@ -17,6 +15,7 @@ use Rattle.guard.specs.Terms.{Table, tableOf}
 use Rattle.guard.proofs.ClosureBelow.{InRange, LiteralsInRange}
 use Rattle.guard.proofs.NodeLaws.{is-falls, is-in-range, isnt-falls, isnt-in-range, split-is}
 
+-- two ways to search the children that agree where there is a split give the same
 node-same : (b : Bool) (d : Option Split) (c c′ : Literal → Visits)
     → ((s : Split) → d ≡ some s → (c (is (s .term) (s .variant)) ≡ c′ (is (s .term) (s .variant))) × (c (isnt (s .term) (s .variant)) ≡ c′ (isnt (s .term) (s .variant))))
     → node b d c ≡ node b d c′

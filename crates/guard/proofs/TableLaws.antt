@@ -1,5 +1,4 @@
 -- The table of a guard, element by element: what is in it, and what everything in it satisfies. Assumes nothing.
--- ---- what rows give
 use mathlib.Core.Path.{_≡_, refl, ap, sym, _∙_, subst}
 use mathlib.Core.Bool.{Bool, true, false, not}
 use mathlib.Core.List.{List, [], _∷_, List·Memᴰ, List·Memᴰ·head, List·Memᴰ·tail, _++_, map, List·Memᴰ·append-cases, Memᴰ·append-left, Memᴰ·append-right}
@@ -15,17 +14,16 @@ use native.Mathlib.Nat.{add-zero, zero-add}
 use Rattle.laws.specs.All.{All, All.more, All.none}
 use Rattle.laws.specs.Lists.{concatMap, from}
 use Rattle.laws.proofs.Lists.{all-getD, all-map, all-mem, all-of, filter-is, filter-mem, from-bounds, map-inv, mem-concatMap, mem-concatMap-inv, mem-from, mem-map}
-use Rattle.guard.specs.File.{parts, rows, types, variant}
 use Rattle.guard.specs.Guard.{Guard, Literal, Literal.equal, Literal.is, Literal.isnt, Literal.unequal, Row, Row.built, Row.constant, Row.field, rowAt, typeAt, typeOf}
 use Rattle.guard.specs.Limits.{Limits, Supported, variantLimit}
 use Rattle.guard.specs.Message.{Message, Message.made, Message.number, Parts}
-use Rattle.guard.specs.Rules.{BuiltAt.row}
-use Rattle.guard.specs.Terms.{Build, Const, Read, Term, absentTerm, buildOf, constOf, defaultBuild, defaultConst, defaultTerm, fieldTerms, fieldless, fromRows, pairTerms, readOf, rowTerm, siblingTerm, siblingsOf, tableOf, termCount}
+use Rattle.guard.specs.Terms.{Build, Const, Read, Term, buildOf, constOf, defaultBuild, defaultConst, defaultTerm, fieldTerms, fieldless, fromRows, pairTerms, readAt, readOf, rowTerm, siblingTerm, siblingsOf, tableOf, termCount}
 use Rattle.guard.specs.Types.{Types, Variant, defaults, fieldsOf, variantsOf}
 use Rattle.guard.specs.WellFormed.{LiteralFits, RowFits, WellFormed}
 use Rattle.guard.proofs.ClosureBelow.{InRange, LiteralInRange, LiteralsInRange}
 use Rattle.guard.proofs.DefaultLaws.{default-belongs}
 
+-- ---- what rows give
 module _ {A : Type 0} (f : ℕ → Row → List A) where
   pub mem-fromRows : (n i : ℕ) (rs : List Row) (x : A) → i < length rs → List·Memᴰ x (f (n + i) (rowAt rs i)) → List·Memᴰ x (fromRows f n rs)
   mem-fromRows n i [] x h m = absurd (omega arith)
@@ -49,19 +47,6 @@ module _ {A : Type 0} (f : ℕ → Row → List A) where
 
   pub rows-inv : (P : A → Type 0) (rs : List Row) → ((i : ℕ) → i < length rs → (w : Row) → rowAt rs i ≡ w → (x : A) → List·Memᴰ x (f i w) → P x) → (x : A) → List·Memᴰ x (fromRows f 0 rs) → P x
   rows-inv P rs h = fromRows-inv P 0 rs (λ i hi x m. h i hi (rowAt rs i) refl x (subst (λ (k : ℕ). List·Memᴰ x (f k (rowAt rs i))) (zero-add i) m))
-
--- the read of a field row
-abbrev pub readAt : Types → ℕ → ℕ → ℕ → ℕ → ℕ → Read
-readAt ts i t a v p =
-    record {
-      row = i;
-      term = a;
-      type = t;
-      variant = v;
-      position = p;
-      absent = absentTerm ts t v p;
-      fields = fieldTerms i p 0 (siblingTerm i) (fieldsOf ts t v);
-    }
 
 abbrev pub defaultBuildOf : Types → ℕ → ℕ → Build
 defaultBuildOf ts t v = record { term = defaultTerm t; type = t; variant = v; parts = map defaultTerm (fieldsOf ts t v) }

@@ -28,19 +28,23 @@ verdict (closed n) = unsat n
 abbrev pub withBudget : ℕ → Visits → Outcome
 withBudget budget w = cond (leb (visits w) budget) (verdict w) (spent budget)
 
-abbrev pub afterFile : ℕ → Parsed Guard → Outcome
-afterFile budget (refused q) = refusal q
-afterFile budget (accepted g rest) = withBudget budget (searchOf g)
+-- question 1: "Are both buffers long enough? If no: 1. After it the file is read from its first byte."
+abbrev pub afterBuffers : Bool → Limits → List ℕ → Parsed Guard
+afterBuffers false limits bytes = refused 1
+afterBuffers true limits bytes = file limits bytes
 
--- question 1: "Are both buffers long enough?"
-abbrev pub afterBuffers : Bool → Limits → List ℕ → ℕ → Outcome
-afterBuffers false limits bytes budget = refusal 1
-afterBuffers true limits bytes budget = afterFile budget (file limits bytes)
+-- the questions 1 to 10 in order, of a file and the lengths of the row buffer and the place buffer: the number of the
+-- first that gets a no, or the guard
+unfoldable pub questions : Limits → List ℕ → ℕ → ℕ → Parsed Guard
+questions limits bytes rowLength placeLength = afterBuffers (leb (rowBuffer limits) rowLength && leb (placeBuffer limits) placeLength) limits bytes
+
+abbrev pub afterQuestions : ℕ → Parsed Guard → Outcome
+afterQuestions budget (refused q) = refusal q
+afterQuestions budget (accepted g rest) = withBudget budget (searchOf g)
 
 -- the answer for a file, a budget, and the lengths of the row buffer and the place buffer
 unfoldable pub outcome : Limits → List ℕ → ℕ → ℕ → ℕ → Outcome
-outcome limits bytes budget rowLength placeLength =
-    afterBuffers (leb (rowBuffer limits) rowLength && leb (placeBuffer limits) placeLength) limits bytes budget
+outcome limits bytes budget rowLength placeLength = afterQuestions budget (questions limits bytes rowLength placeLength)
 
 -- ---- the code's answer
 

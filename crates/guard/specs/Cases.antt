@@ -9,7 +9,7 @@ use Rattle.guard.specs.Terms.{tableOf}
 use Rattle.guard.specs.Closure.{closureOf, initial, saturate, consequences}
 use Rattle.guard.specs.Node.{isClosed, splitOf}
 use Rattle.guard.specs.Search.{searchTo, search, searchOf}
-use Rattle.guard.specs.Answer.{Outcome, Outcome.sat, Outcome.unsat, Outcome.spent, outcome}
+use Rattle.guard.specs.Answer.{Outcome, Outcome.sat, Outcome.unsat, Outcome.spent, outcome, questions}
 
 pub record Case : Type 0 where
   pub bytes : List ℕ
@@ -59,5 +59,5 @@ cases =
 
 -- with buffers just long enough, each case gets the answer that the document gives
 pub right : map (λ c. outcome base (c .bytes) (c .budget) (rowBuffer base) (placeBuffer base)) cases ≡ map (λ c. c .expected) cases
-unfolding outcome file searchOf search searchTo tableOf closureOf initial saturate consequences isClosed splitOf ones onesIn
+unfolding outcome questions file searchOf search searchTo tableOf closureOf initial saturate consequences isClosed splitOf ones onesIn
 right = refl

@@ -75,11 +75,9 @@ abbrev pub fieldTerms : ℕ → ℕ → ℕ → ℕ → Variant → List ℕ
 fieldTerms r p q s [] = []
 fieldTerms r p q s (f ∷ fs) = elim (eqb p q) [ true ↦ r ∷ fieldTerms r p (suc q) s fs | false ↦ s ∷ fieldTerms r p (suc q) (suc s) fs ]
 
-abbrev pub readOf : Types → ℕ → Row → List Read
-readOf ts i (variable t) = []
-readOf ts i (constant t z) = []
-readOf ts i (built t v ps) = []
-readOf ts i (field t a v p) =
+-- the read of field row i
+abbrev pub readAt : Types → ℕ → ℕ → ℕ → ℕ → ℕ → Read
+readAt ts i t a v p =
     record {
       row = i;
       term = a;
@@ -89,7 +87,12 @@ readOf ts i (field t a v p) =
       absent = absentTerm ts t v p;
       fields = fieldTerms i p 0 (siblingTerm i) (fieldsOf ts t v);
     }
-    ∷ []
+
+abbrev pub readOf : Types → ℕ → Row → List Read
+readOf ts i (variable t) = []
+readOf ts i (constant t z) = []
+readOf ts i (built t v ps) = []
+readOf ts i (field t a v p) = readAt ts i t a v p ∷ []
 
 abbrev pub buildOf : ℕ → Row → List Build
 buildOf i (variable t) = []

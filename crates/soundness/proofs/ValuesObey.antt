@@ -19,12 +19,12 @@ use Rattle.guard.specs.Limits.{Limits, Supported, variantLimit}
 use Rattle.guard.specs.Meaning.{Assigns, Belongs, IsVariant, readField}
 use Rattle.guard.specs.Message.{Message, Message.made, Message.number, Parts, Parts.nil, toParts}
 use Rattle.guard.specs.Rules.{AllSame, Alone, BuiltAt, BuiltAt.read, BuiltAt.row, ObeysRules, Relation}
-use Rattle.guard.specs.Terms.{Build, Const, Read, Term, absentTerm, asBuild, defaultTerm, fieldless, tableOf}
+use Rattle.guard.specs.Terms.{Build, Const, Read, Term, absentTerm, asBuild, defaultTerm, fieldless, readAt, tableOf}
 use Rattle.guard.specs.Types.{Types, defaultOf, defaults, fieldType, fieldsOf, isNumber, variantsOf}
 use Rattle.guard.specs.WellFormed.{WellFormed}
 use Rattle.guard.proofs.DefaultLaws.{default-form, default-is}
 use Rattle.guard.proofs.MessageLaws.{belong-length, has-variant, made-by, made-fieldless, one-variant, parts-eq, read-other, reads-all, variant-below, variant-type}
-use Rattle.guard.proofs.TableLaws.{build-inv, const-inv, defaultBuildOf, fieldless-is, read-inv, readAt, row-fit, table-in-range, types-of}
+use Rattle.guard.proofs.TableLaws.{build-inv, const-inv, defaultBuildOf, fieldless-is, read-inv, row-fit, table-in-range, types-of}
 use Rattle.soundness.proofs.TermValues.{read-fields, read-term-belongs, row-equation, term-belongs, termValue, value-default}
 
 abbrev pub SameValue : (ℕ → Message) → Relation

@@ -14,8 +14,7 @@ use Rattle.laws.specs.Lists.{all, filter, from, product}
 use Rattle.laws.proofs.Bools.{and-both, and-left, and-right, by-test, or-left, or-right}
 use Rattle.laws.proofs.Lists.{all-true, filter-is, filter-mem, from-bounds, from-length, map-cong, mem-from}
 use Rattle.laws.proofs.Products.{filter-fewer, filter-split, product-pos, product-split}
-use Rattle.guard.specs.Closure.{LacksAt, SameAt, holds}
-use Rattle.guard.specs.File.{types, variant}
+use Rattle.guard.specs.Closure.{LacksAt, SameAt}
 use Rattle.guard.specs.Guard.{Guard, Literal, Literal.equal, Literal.is, Literal.isnt, Literal.unequal}
 use Rattle.guard.specs.Limits.{Limits, Supported, variantLimit}
 use Rattle.guard.specs.Node.{Split}
@@ -27,7 +26,7 @@ use Rattle.guard.specs.WellFormed.{WellFormed}
 use Rattle.guard.proofs.ClosureBelow.{LiteralsInRange}
 use Rattle.guard.proofs.NodeLaws.{cons-in-range}
 use Rattle.trees.specs.Tree.{Finished, Tree, Tree.branch, Tree.leaf, literalsAt, nodes, stateAt}
-use Rattle.trees.proofs.Choices.{OnChoice, choice-term, has-variant, node-least, permitted-on-choice, range}
+use Rattle.trees.proofs.Choices.{OnChoice, choice-term, label-variant, node-least, permitted-on-choice, range}
 
 -- the decision leaves the variant to the term
 abbrev permits : ℕ → ℕ → Literal → Bool
@@ -167,7 +166,7 @@ module _ (limits : Limits) (sup : Supported limits) (g : Guard) (ok : WellFormed
           same : x .term ≡ d .term → 1 ≤ left (l ∷ ds) (variantsOf (g .types) (x .type)) (x .term)
           same q =
               left-pos (l ∷ ds) (variantsOf (g .types) (x .type)) (x .term) u
-              (has-variant limits sup g ok ds (nd .inRange) x u (choice-term limits sup g ok x m) (subst (λ (i : ℕ). ¬ LacksAt (stateAt g ds) i u) (sym q) lu))
+              (label-variant limits sup g ok ds (nd .inRange) x u (choice-term limits sup g ok x m) (subst (λ (i : ℕ). ¬ LacksAt (stateAt g ds) i u) (sym q) lu))
               (subst (λ (i : ℕ). leaves (l ∷ ds) i u ≡ true) (sym q) (and-both (permits (d .term) u l) (leaves ds (d .term) u) own (held-left (d .term) u small-term hu lu)))
 
           other : ¬ (x .term ≡ d .term) → (vs : List Variant) → 1 ≤ left ds vs (x .term) → 1 ≤ left (l ∷ ds) vs (x .term)

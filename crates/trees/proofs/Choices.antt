@@ -15,8 +15,7 @@ use Rattle.laws.specs.Lists.{any, concatMap, from}
 use Rattle.laws.proofs.Bits.{bit-zero, one-set}
 use Rattle.laws.proofs.Bools.{and-false, and-left, and-right, by-test}
 use Rattle.laws.proofs.Lists.{any-none, any-some, filter-is, from-bounds, mem-concatMap, mem-concatMap-inv, mem-from}
-use Rattle.guard.specs.Closure.{LacksAt, SameAt, State, holds, labelOf, lacks, reads}
-use Rattle.guard.specs.File.{parts, rows, types, variant}
+use Rattle.guard.specs.Closure.{LacksAt, SameAt, State, labelOf, lacks}
 use Rattle.guard.specs.Guard.{Guard, Literal, Row, Row.built, Row.constant, Row.field, Row.variable, rowAt, typeAt, typeOf}
 use Rattle.guard.specs.Limits.{Limits, Supported, variantLimit}
 use Rattle.guard.specs.Message.{Message, Message.made, Message.number}
@@ -109,8 +108,8 @@ module _ (limits : Limits) (sup : Supported limits) (g : Guard) (ok : WellFormed
     s = stateAt g ds
 
     -- a variant that the label of a term holds is one of its type
-    pub has-variant : (x : Term) (v : ℕ) → List·Memᴰ x ((tableOf g) .terms) → ¬ LacksAt (stateAt g ds) (x .term) v → v < length (variantsOf (g .types) (x .type))
-    has-variant x v m h =
+    pub label-variant : (x : Term) (v : ℕ) → List·Memᴰ x ((tableOf g) .terms) → ¬ LacksAt (stateAt g ds) (x .term) v → v < length (variantsOf (g .types) (x .type))
+    label-variant x v m h =
         by-test (ltb v (length (variantsOf (g .types) (x .type)))) (λ e. ltb-true _ _ e)
         (λ e. absurd (h (node-least ds r .rules .beyond x v m (subst (λ (ts : Types). length (variantsOf ts (x .type)) ≤ v) (sym (types-of g)) (ltb-false v _ e)))))
 
@@ -130,7 +129,7 @@ module _ (limits : Limits) (sup : Supported limits) (g : Guard) (ok : WellFormed
             (λ e. hv (node-least ds r .rules .built b m v lv (eqb-false v (b .variant) e)))
 
         number-none : (x : Term) → List·Memᴰ x ((tableOf g) .terms) → isNumber (g .types) (x .type) ≡ true → (v : ℕ) → ¬ LacksAt (stateAt g ds) (x .term) v → ⊥
-        number-none x m e v h = omega (arith, has-variant x v m h, eqb-true (length (variantsOf (g .types) (x .type))) 0 e)
+        number-none x m e v h = omega (arith, label-variant x v m h, eqb-true (length (variantsOf (g .types) (x .type))) 0 e)
 
         row : (i : ℕ) → i < length (g .rows) → (y : Row) → rowAt (g .rows) i ≡ y → (v w : ℕ) → ¬ (w ≡ v) → ¬ LacksAt (stateAt g ds) i v → ¬ LacksAt (stateAt g ds) i w → v < variantLimit → w < variantLimit
             → List·Memᴰ (record { term = i; type = typeAt (g .types) (g .rows) i }) (choices g)
@@ -161,10 +160,10 @@ module _ (limits : Limits) (sup : Supported limits) (g : Guard) (ok : WellFormed
           type = x .type;
           choice = two-choice x m v w ne lv lw hv hw;
           inTable = m;
-          variant = has-variant x v m lv;
+          variant = label-variant x v m lv;
           holds = lv;
           other = w;
-          otherVariant = has-variant x w m lw;
+          otherVariant = label-variant x w m lw;
           otherDiffers = ne;
           otherHolds = lw;
         }

@@ -10,8 +10,7 @@ use native.Mathlib.Omega.{arith}
 use mathlib.Core.Option.{Option, none, some}
 use Rattle.laws.specs.Lists.{find}
 use Rattle.laws.proofs.Lists.{find-none, find-some, none-some}
-use Rattle.guard.specs.Closure.{State, reads}
-use Rattle.guard.specs.File.{variant}
+use Rattle.guard.specs.Closure.{State}
 use Rattle.guard.specs.Guard.{Guard, Literal, Literal.is, Literal.isnt}
 use Rattle.guard.specs.Limits.{Limits, Supported}
 use Rattle.guard.specs.Node.{Split, firstKind, onRead, onTerm, secondKind, splitOf}
