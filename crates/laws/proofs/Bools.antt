@@ -47,3 +47,7 @@ cond-ind P false x y f g = g refl
 pub by-test : {A : Type 0} (b : Bool) → (b ≡ true → A) → (b ≡ false → A) → A
 by-test true f g = f refl
 by-test false f g = g refl
+
+pub either : {A B C : Type 0} → (A → C) → (B → C) → A ⊎ B → C
+either f g (inl a) = f a
+either f g (inr b) = g b

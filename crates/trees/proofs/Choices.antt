@@ -22,7 +22,7 @@ use Rattle.guard.specs.Message.{Message, Message.made, Message.number}
 use Rattle.guard.specs.Node.{Split, holdsAnother, onTerm, secondKind}
 use Rattle.guard.specs.Rules.{LeastClosure}
 use Rattle.guard.specs.Search.{choices, ownChoice}
-use Rattle.guard.specs.Terms.{Build, Table, Term, defaultTerm, fromRows, pairTerms, siblingsOf, tableOf}
+use Rattle.guard.specs.Terms.{Build, Table, Term, defaultTerm, fromRows, pairTerms, siblingsOf, tableOf, termCount}
 use Rattle.guard.specs.Types.{Types, defaults, fieldsOf, isNumber, variantsOf}
 use Rattle.guard.specs.WellFormed.{RowFits, WellFormed}
 use Rattle.guard.proofs.ClosureBelow.{InRange, LiteralInRange, LiteralsInRange}
@@ -182,3 +182,9 @@ module _ (limits : Limits) (sup : Supported limits) (g : Guard) (ok : WellFormed
         let sp = split-term (tableOf g) range (literalsAt g ds) x v m k (lowest-left (tableOf g) range (literalsAt g ds) x k) in
         let (w, hw, ne, lw) = another-variant (stateAt g ds) (x .term) v (closure-small (tableOf g) (literalsAt g ds) (x .term)) (sp .another) in
         two-choice x m v w ne (holds-it (stateAt g ds) (x .term) v (sp .another)) lw (sp .variant) hw
+
+    -- the decision of a permitted split is in range
+    pub split-in-range : (d : Split) → Permitted g ds d → (d .term < termCount) × (d .variant < variantLimit)
+    split-in-range d p =
+        let oc = permitted-on-choice d p in
+        (range .terms (record { term = d .term; type = oc .type }) (oc .inTable) .0, omega (arith, oc .variant, ok .variantCounts (oc .type)))
