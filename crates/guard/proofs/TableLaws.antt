@@ -221,13 +221,13 @@ pair-small (p ∷ ps) (f ∷ fs) (more h hs) x (List·Memᴰ·head e) = subst (�
 pair-small (p ∷ ps) (f ∷ fs) (more h hs) x (List·Memᴰ·tail m) = pair-small ps fs hs x m
 
 module _ (limits : Limits) (sup : Supported limits) (g : Guard) (ok : WellFormed limits g) where
-  few-types : length (g .types) ≤ 6
+  pub few-types : length (g .types) ≤ 6
   few-types = omega (arith, ok .typeCount, sup .types)
 
-  few-rows : length (g .rows) ≤ 24
+  pub few-rows : length (g .rows) ≤ 24
   few-rows = omega (arith, ok .termCount, sup .terms)
 
-  row-fit : (i : ℕ) (w : Row) → i < length (g .rows) → rowAt (g .rows) i ≡ w → RowFits (g .types) (g .rows) i w
+  pub row-fit : (i : ℕ) (w : Row) → i < length (g .rows) → rowAt (g .rows) i ≡ w → RowFits (g .types) (g .rows) i w
   row-fit i w h e = subst (RowFits (g .types) (g .rows) i) e (ok .rows i h)
 
   defaults-small : (fs : Variant) → All (λ f. f < length (g .types)) fs → All (λ p. p < termCount) (map defaultTerm fs)
