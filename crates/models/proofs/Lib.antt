@@ -1,1 +1,3 @@
 pub mod TypedTable
+pub mod Nodes
+pub mod Ranks

@@ -14,12 +14,9 @@ use mathlib.Core.Option.{none, some}
 use native.Mathlib.Nat.{add-zero}
 use Rattle.laws.specs.All.{All, All.more, All.none}
 use Rattle.laws.proofs.Lists.{all-getD, all-map, all-mem, all-of, map-cong, map-inv, mem-map}
-use Rattle.guard.specs.Closure.{reads}
-use Rattle.guard.specs.File.{parts, rows, types, variant}
 use Rattle.guard.specs.Guard.{Guard, Literal.equal, Row, Row.built, Row.constant, Row.field, Row.variable, rowAt, typeAt, typeOf}
 use Rattle.guard.specs.Limits.{Limits, Supported}
 use Rattle.guard.specs.Message.{Message.made, Message.number, Parts}
-use Rattle.guard.specs.Rules.{BuiltAt.row}
 use Rattle.guard.specs.Terms.{Build, Const, Read, Table, Term, asBuild, defaultTerm, fieldTerms, pairTerms, siblingTerm, tableOf}
 use Rattle.guard.specs.Types.{Types, Variant, defaults, fieldType, fieldsOf, isNumber, variantsOf}
 use Rattle.guard.specs.WellFormed.{LiteralFits, RowFits, WellFormed}
