@@ -245,3 +245,13 @@ filter-from-ordered p (suc n) a u w us e = go (filter-from-ordered p n (suc a) u
         let y : filter p (from n (suc a)) ≡ w ∷ us = cc in
         omega (arith, from-bounds n (suc a) w (filter-is p (from n (suc a)) w (subst (List·Memᴰ w) (sym y) (List·Memᴰ·head refl)) .0) .0)
     go ih false r = ih r
+
+-- ---- lengths
+
+pub length-nil : {A : Type 0} (xs : List A) → length xs ≡ 0 → xs ≡ []
+length-nil [] e = refl
+length-nil (x ∷ xs) e = absurd (omega arith)
+
+pub map-map : {A B C : Type 0} (f : B → C) (g : A → B) (xs : List A) → map f (map g xs) ≡ map (λ x. f (g x)) xs
+map-map f g [] = refl
+map-map f g (x ∷ xs) = ap (λ l. f (g x) ∷ l) (map-map f g xs)

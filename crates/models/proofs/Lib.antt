@@ -1,3 +1,4 @@
 pub mod TypedTable
 pub mod Nodes
 pub mod Ranks
+pub mod Classes
