@@ -2,3 +2,4 @@ pub mod TypedTable
 pub mod Nodes
 pub mod Ranks
 pub mod Classes
+pub mod Picture
