@@ -255,3 +255,9 @@ length-nil (x ∷ xs) e = absurd (omega arith)
 pub map-map : {A B C : Type 0} (f : B → C) (g : A → B) (xs : List A) → map f (map g xs) ≡ map (λ x. f (g x)) xs
 map-map f g [] = refl
 map-map f g (x ∷ xs) = ap (λ l. f (g x) ∷ l) (map-map f g xs)
+
+pub map-from-snoc : {A : Type 0} (f : ℕ → A) (n a : ℕ) → map f (from (suc n) a) ≡ map f (from n a) ++ (f (a + n) ∷ [])
+map-from-snoc f zero a = let e : a ≡ a + 0 = omega arith in ap (λ (k : ℕ). f k ∷ []) e
+map-from-snoc f (suc n) a =
+    let e : suc a + n ≡ a + suc n = omega arith in
+    ap (λ l. f a ∷ l) (map-from-snoc f n (suc a) ∙ ap (λ (k : ℕ). map f (from n (suc a)) ++ (f k ∷ [])) e)

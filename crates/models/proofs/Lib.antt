@@ -3,3 +3,4 @@ pub mod Nodes
 pub mod Ranks
 pub mod Classes
 pub mod Picture
+pub mod Model
