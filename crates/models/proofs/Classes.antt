@@ -2,30 +2,27 @@
 -- parts make the variant and the classes of the parts unique. A class whose label is one fieldless variant alone is a
 -- node without parts, a class with a constant is that constant, and any other class is free. The rules keep to types,
 -- so terms of one class have one type; hence the reasons exclude each other, and nodes and constants of one type that
--- look alike are one class. A free class of variant type has a variant with fields in its label: an empty label closes
--- the node, a single fieldless variant makes the class a node, and two or more, all fieldless, split it. Assumes nothing.
+-- look alike are one class. Assumes nothing.
 use mathlib.Core.Path.{_≡_, refl, ap, sym, _∙_, subst}
-use mathlib.Core.Bool.{Bool, true, false, false≢true, _&&_, not}
-use mathlib.Core.List.{List, [], _∷_, List·Memᴰ, nil≢cons, map, List·Memᴰ·head, List·Memᴰ·tail, List·Memᴰ·not-nil}
+use mathlib.Core.Bool.{Bool, true, false, false≢true, _&&_}
+use mathlib.Core.List.{List, [], _∷_, List·Memᴰ, nil≢cons, map, List·Memᴰ·head, List·Memᴰ·tail}
 use mathlib.Core.Logic.{_⊎_, inl, inr}
 use Prim.Native.Nat.{ℕ, _<_, zero, suc, _+_}
 use native.Mathlib.Omega.{arith}
-use lib.Dec.{eqb, leb, ltb}
+use lib.Dec.{eqb}
 use lib.ListN.{length, getD}
-use borrow.Author.Tests.{eqb-true, eqb-false, eq-eqb, ne-eqb, ltb-true, ltb-false, leb-false, not-true, not-false}
+use borrow.Author.Tests.{eqb-true, eqb-false, eq-eqb, ne-eqb}
 use lib.IntN.{ℤ}
 use native.Mathlib.Nat.{add-zero, zero-add}
-use mathlib.Core.Option.{Option, none, some}
+use mathlib.Core.Option.{none}
 use Rattle.laws.specs.All.{All, All.none}
-use Rattle.laws.specs.Bits.{bit}
-use Rattle.laws.specs.Lists.{any, find, from, member}
-use Rattle.laws.proofs.Bools.{and-both, and-false, and-left, and-right, by-test}
-use Rattle.laws.proofs.Lists.{all-map, all-mem, any-of, any-some, filter-is, filter-mem, find-none, find-some, from-bounds, length-nil, map-cong, map-length, map-map, mem-from}
-use Rattle.laws.proofs.Members.{all-true, find-cases, member-of}
-use Rattle.guard.specs.Closure.{LacksAt, SameAt, State, alone, buildsAt, classOf, closureOf, labelOf, lacks}
+use Rattle.laws.specs.Lists.{any}
+use Rattle.laws.proofs.Bools.{and-both, and-left, and-right, by-test}
+use Rattle.laws.proofs.Lists.{all-map, all-mem, any-of, any-some, length-nil, map-cong, map-length, map-map}
+use Rattle.laws.proofs.Members.{find-cases}
+use Rattle.guard.specs.Closure.{LacksAt, SameAt, State, alone, buildsAt, classOf, closureOf}
 use Rattle.guard.specs.Guard.{Literal}
 use Rattle.guard.specs.Limits.{variantLimit}
-use Rattle.guard.specs.Node.{variantsLeft}
 use Rattle.guard.specs.Rules.{AllSame, Alone, BuiltAt, BuiltAt.read, BuiltAt.row, ObeysLiterals, ObeysRules, Relation}
 use Rattle.guard.specs.Terms.{Build, Const, Table, Term, fieldless}
 use Rattle.guard.specs.Types.{Variant, fieldType, fieldsOf, isNumber, variantsOf}
@@ -36,8 +33,18 @@ use Rattle.growth.proofs.Injective.{Kind, Kind.const, Kind.free, Kind.node}
 use Rattle.models.proofs.Nodes.{OpenNode, TypedNode, alone-held, alone-test, build-of, built-alone, built-of, built-small, built-term, constants-agree, label-held, test-alone}
 use Rattle.models.proofs.TypedTable.{BuildTyped, TableTyped}
 
+-- the three kinds differ
+pub node≢const : {v : ℕ} {ps : List ℕ} {z : ℤ} → node v ps ≡ const z → ⊥
+node≢const e = let y : _≡_ {A = ℕ} 0 1 = cc in omega arith
+
+pub node≢free : {v : ℕ} {ps : List ℕ} → node v ps ≡ free → ⊥
+node≢free e = let y : _≡_ {A = ℕ} 0 1 = cc in omega arith
+
+pub const≢free : {z : ℤ} → const z ≡ free → ⊥
+const≢free e = let y : _≡_ {A = ℕ} 0 1 = cc in omega arith
+
 -- a variant with no fields is a fieldless variant
-fieldless-has : (n k : ℕ) (vs : List Variant) → k < length vs → getD vs k [] ≡ [] → List·Memᴰ (n + k) (fieldless n vs)
+pub fieldless-has : (n k : ℕ) (vs : List Variant) → k < length vs → getD vs k [] ≡ [] → List·Memᴰ (n + k) (fieldless n vs)
 fieldless-has n k [] h e = absurd (omega arith)
 fieldless-has n zero ([] ∷ vs) h e = List·Memᴰ·head (add-zero n)
 fieldless-has n zero ((f ∷ fs) ∷ vs) h e = absurd (nil≢cons (sym e))
@@ -124,7 +131,7 @@ module _ (t : Table) (ls : List Literal) (type : ℕ → ℕ) (n : TypedNode t l
   term-type x m =
       sym (closure-sound t ls (n .inRange) (n .literalsInRange) (λ i j. type i ≡ type j) (λ i v. Unit {0}) type-rules type-literals .class (x .term) (n .inRange .terms x m .0)) ∙ typed .terms x m
 
-  type-at : (x : Term) → IsTerm x → (c : ℕ) → cls (x .term) ≡ c → type c ≡ x .type
+  pub type-at : (x : Term) → IsTerm x → (c : ℕ) → cls (x .term) ≡ c → type c ≡ x .type
   type-at x m c e = ap type (sym e) ∙ term-type x m
 
   -- ---- builds and constants
@@ -271,6 +278,10 @@ module _ (t : Table) (ls : List Literal) (type : ℕ → ℕ) (n : TypedNode t l
   abbrev pub IsClass : ℕ → Type 0
   IsClass c = (x : Term) × List·Memᴰ x (t .terms) × (classOf (closureOf t ls) (x .term) ≡ c)
 
+  -- a class that is to get a message
+  abbrev pub NeededClass : (ℕ → Type 0) → ℕ → Type 0
+  NeededClass Need c = IsClass c × Need c
+
   -- a node has a build, or no parts
   pub record BuiltClass (c v : ℕ) (ps : List ℕ) : Type 0 where
     pub build : Build
@@ -297,15 +308,6 @@ module _ (t : Table) (ls : List Literal) (type : ℕ → ℕ) (n : TypedNode t l
     pub class : cls (const .term) ≡ c
     pub value : z ≡ const .value
     pub isType : type c ≡ const .type
-
-  node≢const : {v : ℕ} {ps : List ℕ} {z : ℤ} → node v ps ≡ const z → ⊥
-  node≢const e = let y : _≡_ {A = ℕ} 0 1 = cc in omega arith
-
-  node≢free : {v : ℕ} {ps : List ℕ} → node v ps ≡ free → ⊥
-  node≢free e = let y : _≡_ {A = ℕ} 0 1 = cc in omega arith
-
-  const≢free : {z : ℤ} → const z ≡ free → ⊥
-  const≢free e = let y : _≡_ {A = ℕ} 0 1 = cc in omega arith
 
   part-classes : (b : Build) → BuiltHere b → All IsClass (map cls (b .parts))
   part-classes b m = all-map cls (b .parts) (λ p k. (record { term = p; type = type p }, all-mem (built-typed _ b m .partTerms) p k, refl))
@@ -419,97 +421,3 @@ module _ (t : Table) (ls : List Literal) (type : ℕ → ℕ) (n : TypedNode t l
       go (inl a) =
           subst (All (λ p. rank p < rank c)) (sym (a .parts)) (subst (λ (x : ℕ). All (λ p. rank p < rank x) (map cls (a .build .parts))) (a .class)
           (all-map cls (a .build .parts) (λ p m. all-mem (falls (a .build) (a .here)) p m)))
-
-  -- ---- a variant with fields for a free class of variant type
-
-  pub record HeldVariant (c v : ℕ) : Type 0 where
-    pub variant : v < length (variantsOf (t .types) (type c))
-    pub fields : 0 < length (fieldsOf (t .types) (type c) v)
-    pub held : (x : Term) → IsTerm x → cls (x .term) ≡ c → ¬ LacksAt S (x .term) v
-
-  -- a label of type u holds variant v, which has fields
-  abbrev withFields : ℕ → ℕ → ℕ → Bool
-  withFields label u v = not (eqb (bit label v) 0) && not (eqb (length (fieldsOf (t .types) u v)) 0)
-
-  abbrev orZero : Option ℕ → ℕ
-  orZero none = 0
-  orZero (some v) = v
-
-  abbrev lowestOf : ℕ → ℕ → ℕ
-  lowestOf label u = orZero (find (withFields label u) (from (length (variantsOf (t .types) u)) 0))
-
-  -- the lowest variant with fields in the label of a class
-  pub lowestHeld : ℕ → ℕ
-  lowestHeld c = lowestOf (getD (S .labels) c 0) (type c)
-
-  module _ (x : Term) (m : IsTerm x) where
-    abbrev many : ℕ
-    many = length (variantsOf (t .types) (x .type))
-
-    abbrev left : List ℕ
-    left = variantsLeft t S x
-
-    -- what is not left is lacking
-    not-left : (u : ℕ) → (List·Memᴰ u left → ⊥) → LacksAt S (x .term) u
-    not-left u k =
-        by-test (ltb u many) (λ r. by-test (lacks S (x .term) u) (λ e. eqb-true _ _ e)
-        (λ e. absurd (k (filter-mem (λ v. not (lacks S (x .term) v)) (from many 0) u (mem-from many 0 u (omega arith) (omega (arith, ltb-true u many r))) (ap not e)))))
-        (λ r. rules .beyond x u m (ltb-false u many r))
-
-    -- no variant left, or one alone that is fieldless: neither can be
-    not-few : isNumber (t .types) (x .type) ≡ false → kindOf (cls (x .term)) ≡ free → (us : List ℕ) → left ≡ us → length us < 2 → ((v : ℕ) → List·Memᴰ v us → Fieldless (x .type) v) → ⊥
-    not-few e q [] r h f =
-        alone-held t ls (n .inRange) (n .literalsInRange) (x .term) 0 (omega arith) (label-held t ls S (o .notClosed) x m e) (λ u hu ne. all-lack u) (all-lack 0)
-      where
-        all-lack : (u : ℕ) → LacksAt S (x .term) u
-        all-lack u = not-left u (λ k. List·Memᴰ·not-nil (subst (List·Memᴰ u) r k))
-    not-few e q (v ∷ []) r h f = go (reason (cls (x .term)))
-      where
-        one : (u : ℕ) → List·Memᴰ u (v ∷ []) → u ≡ v
-        one u (List·Memᴰ·head d) = d
-
-        go : Reason (cls (x .term)) (kindOf (cls (x .term))) → ⊥
-        go (built b mb qb k) = node≢free (sym k ∙ q)
-        go (nullary y w my qy fy a k) = node≢free (sym k ∙ q)
-        go (constant a ma qa k) = const≢free (sym k ∙ q)
-        go (unfixed g g′ j k) = j x v m refl (f v (List·Memᴰ·head refl)) (λ u hu ne. not-left u (λ i. ne (one u (subst (List·Memᴰ u) r i))))
-    not-few e q (v ∷ w ∷ us) r h f = omega arith
-
-    none-with-fields : isNumber (t .types) (x .type) ≡ false → kindOf (cls (x .term)) ≡ free → ((v : ℕ) → List·Memᴰ v (from many 0) → withFields (labelOf S (x .term)) (x .type) v ≡ false) → ⊥
-    none-with-fields e q f = not-few e q left refl (by-test (leb 2 (length left)) many-left (leb-false 2 (length left))) plain
-      where
-        plain : (v : ℕ) → List·Memᴰ v left → Fieldless (x .type) v
-        plain v k = go (and-false (not (eqb (bit (labelOf S (x .term)) v) 0)) (not (eqb (length (fieldsOf (t .types) (x .type) v)) 0)) (f v (filter-is (λ v. not (lacks S (x .term) v)) (from many 0) v k .0)))
-          where
-            go : (not (eqb (bit (labelOf S (x .term)) v) 0) ≡ false) ⊎ (not (eqb (length (fieldsOf (t .types) (x .type) v)) 0) ≡ false) → Fieldless (x .type) v
-            go (inl r) = absurd (false≢true (sym r ∙ filter-is (λ v. not (lacks S (x .term) v)) (from many 0) v k .1))
-            go (inr r) =
-                let (i, s) = filter-is (λ v. not (lacks S (x .term) v)) (from many 0) v k in
-                subst (Fieldless (x .type)) (zero-add v) (fieldless-has 0 v (variantsOf (t .types) (x .type)) (omega (arith, from-bounds many 0 v i .1)) (length-nil _ (eqb-true _ _ (not-false _ r))))
-
-        many-left : leb 2 (length left) ≡ true → length left < 2
-        many-left r =
-            absurd (false≢true (sym (o .noTerm x m) ∙ and-both (leb 2 (length left)) _ r
-            (all-true (λ v. member v (fieldless 0 (variantsOf (t .types) (x .type)))) left (λ v k. member-of v (fieldless 0 (variantsOf (t .types) (x .type))) (plain v k)))))
-
-    held-at : isNumber (t .types) (x .type) ≡ false → kindOf (cls (x .term)) ≡ free → HeldVariant (cls (x .term)) (lowestHeld (cls (x .term)))
-    unfolding lowestHeld
-    held-at e q = subst (λ (u : ℕ). HeldVariant (cls (x .term)) (lowestOf (labelOf S (x .term)) u)) (sym (term-type x m)) (go (find (withFields (labelOf S (x .term)) (x .type)) (from many 0)) refl)
-      where
-        held : (v : ℕ) → v < many → withFields (labelOf S (x .term)) (x .type) v ≡ true → HeldVariant (cls (x .term)) v
-        held v h r =
-            let ne : ¬ (length (fieldsOf (t .types) (x .type) v) ≡ 0) = eqb-false _ _ (not-true _ (and-right (not (eqb (bit (labelOf S (x .term)) v) 0)) _ r)) in
-            let some-field : 0 < length (fieldsOf (t .types) (x .type) v) = omega arith in
-            record {
-              variant = subst (λ (u : ℕ). v < length (variantsOf (t .types) u)) (sym (term-type x m)) h;
-              fields = subst (λ (u : ℕ). 0 < length (fieldsOf (t .types) u v)) (sym (term-type x m)) some-field;
-              held = λ y my ey l. eqb-false _ _ (not-true _ (and-left (not (eqb (bit (labelOf S (x .term)) v) 0)) _ r)) (at-class (y .term) (x .term) v ey l);
-            }
-
-        go : (p : Option ℕ) → find (withFields (labelOf S (x .term)) (x .type)) (from many 0) ≡ p → HeldVariant (cls (x .term)) (orZero p)
-        go (some v) r = let (i, s) = find-some (withFields (labelOf S (x .term)) (x .type)) (from many 0) v r in held v (omega (arith, from-bounds many 0 v i .1)) s
-        go none r = absurd (none-with-fields e q (find-none (withFields (labelOf S (x .term)) (x .type)) (from many 0) r))
-
-  pub lowest-held : (c : ℕ) → IsClass c → kindOf c ≡ free → isNumber (t .types) (type c) ≡ false → HeldVariant c (lowestHeld c)
-  lowest-held c (x, m, e) q r =
-      subst (λ (d : ℕ). HeldVariant d (lowestHeld d)) e (held-at x m (ap (isNumber (t .types)) (sym (type-at x m c e)) ∙ r) (ap kindOf e ∙ q))

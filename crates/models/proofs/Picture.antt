@@ -22,7 +22,7 @@ use Rattle.guard.specs.Terms.{Build, Const, Table, Term}
 use Rattle.guard.specs.Types.{Types, fieldsOf, isNumber}
 use Rattle.growth.proofs.Injective.{Kind, Kind.const, Kind.free, Kind.node, Leaf, Open, injective}
 use Rattle.growth.proofs.Paths.{down}
-use Rattle.models.proofs.Classes.{BuiltClass, ConstClass, IsClass, NodeClass, build-kind, const-class, const-kind, const-once, kindOf, node-class, node-falls, node-held, node-once, reason, term-type}
+use Rattle.models.proofs.Classes.{BuiltClass, ConstClass, NeededClass, NodeClass, build-kind, const-class, const-kind, const-once, kindOf, node-class, node-falls, node-held, node-once, reason, term-type}
 use Rattle.models.proofs.Nodes.{OpenNode, TypedNode, built-term}
 use Rattle.models.proofs.TypedTable.{TableTyped}
 
@@ -42,10 +42,6 @@ belongs-type : (ts : Types) (m : Message) (u : ℕ) → Belongs ts m u → messa
 belongs-type ts (number t z) u b = b .0
 belongs-type ts (made t v ms) u b = b .0
 
-pub one-variant : (m : Message) (v w : ℕ) → IsVariant m v → IsVariant m w → v ≡ w
-one-variant (number t z) v w p q = absurd p
-one-variant (made t x ms) v w p q = sym p ∙ q
-
 -- `Need`: the classes that get messages. `at`: the position of the field that a path follows. `rank`, `most`: any ranks that fall.
 module _ (t : Table) (ls : List Literal) (type : ℕ → ℕ) (n : TypedNode t ls type) (o : OpenNode t ls)
     (Need : ℕ → Type 0) (at : ℕ → ℕ → ℕ) (val : ℕ → Message) (rank : ℕ → ℕ) (most : ℕ) where
@@ -58,9 +54,8 @@ module _ (t : Table) (ls : List Literal) (type : ℕ → ℕ) (n : TypedNode t l
   abbrev kind : ℕ → Kind
   kind = kindOf t ls type n o
 
-  -- a needed class
-  abbrev pub In : ℕ → Type 0
-  In c = IsClass t ls type n o c × Need c
+  abbrev In : ℕ → Type 0
+  In = NeededClass t ls type n o Need
 
   -- the local equations, and what is asked of the messages of free classes
   pub record Solution : Type 0 where

@@ -1,7 +1,6 @@
 -- Every term of a well-formed guard's table has one type: a row its row's, a sibling that of its field, a default the
 -- type it is the default of. Parts of builds have the types of the fields that they fill, and the two terms of each
 -- equality have one type. So the rules, which equate nothing else, keep to types. Assumes nothing.
--- ---- typed tables
 use mathlib.Core.Path.{_≡_, refl, ap, sym, _∙_, subst}
 use mathlib.Core.Bool.{Bool, true, false, cond}
 use mathlib.Core.List.{List, [], _∷_, List·Memᴰ, List·Memᴰ·head, List·Memᴰ·tail, nil≢cons, map}
@@ -22,6 +21,8 @@ use Rattle.guard.specs.Types.{Types, Variant, defaults, fieldType, fieldsOf, is
 use Rattle.guard.specs.WellFormed.{LiteralFits, RowFits, WellFormed}
 use Rattle.guard.proofs.DefaultLaws.{default-belongs}
 use Rattle.guard.proofs.TableLaws.{build-inv, const-inv, defaultBuildOf, few-rows, read-inv, read-row, readAt, row-fit, term-default, term-inv, term-row, term-sibling}
+
+-- ---- typed tables
 
 pub record BuildTyped (t : Table) (type : ℕ → ℕ) (b : Build) : Type 0 where
   pub variant : b .variant < length (variantsOf (t .types) (b .type))
