@@ -14,7 +14,6 @@ use lib.ListN.{length, getD}
 use borrow.Author.Tests.{eqb-true, eqb-false, eq-eqb, ne-eqb}
 use lib.IntN.{ℤ}
 use native.Mathlib.Nat.{add-zero, zero-add}
-use mathlib.Core.Option.{none}
 use Rattle.laws.specs.All.{All, All.none}
 use Rattle.laws.specs.Lists.{any}
 use Rattle.laws.proofs.Bools.{and-both, and-left, and-right, by-test}
@@ -196,7 +195,7 @@ module _ (t : Table) (ls : List Literal) (type : ℕ → ℕ) (n : TypedNode t l
   pub build-kind : (b : Build) → BuiltHere b → (k : Kind) → Reason (cls (b .term)) k → k ≡ node (b .variant) (map cls (b .parts))
   build-kind b m k (built a ma q e) =
       let ev : b .variant ≡ a .variant =
-          one-only (termOf b) (termOf a) (b .variant) (a .variant) (build-term b m) (build-number b m) (sym q) (build-small b m) (build-only b m) (build-only a ma) in
+      one-only (termOf b) (termOf a) (b .variant) (a .variant) (build-term b m) (build-number b m) (sym q) (build-small b m) (build-only b m) (build-only a ma) in
       let et : b .type ≡ a .type = sym (build-class b m (cls (b .term)) refl) ∙ build-class a ma (cls (b .term)) q in
       let l : length (b .parts) ≡ length (a .parts) = parts-length b m (a .type) (a .variant) et ev ∙ sym (parts-length a ma (a .type) (a .variant) refl refl) in
       let ep : map cls (b .parts) ≡ map cls (a .parts) = same-map (b .parts) (a .parts) l (rules .parts b a m ma et ev (sym q)) in
@@ -248,13 +247,17 @@ module _ (t : Table) (ls : List Literal) (type : ℕ → ℕ) (n : TypedNode t l
       by-term : ((b : Build) → List·Memᴰ b (buildsAt t S) → eqb (cls (b .term)) c ≡ false) → ((a : Const) → List·Memᴰ a (t .consts) → eqb (cls (a .term)) c ≡ false)
           → ((x : Term) × IsTerm x × (single x ≡ true)) ⊎ ((x : Term) → IsTerm x → single x ≡ false) → (k : Kind) × Reason c k
       by-term nb na (inl (x, m, e)) =
-          let (v, f, q) = any-some (alone S (x .term)) (fieldless 0 (variantsOf (t .types) (x .type))) (and-right (eqb (cls (x .term)) c) _ e) in
-          (node v [], nullary x v m (eqb-true _ _ (and-left (eqb (cls (x .term)) c) _ e)) f
-          (alone-test t ls (n .inRange) (n .literalsInRange) (x .term) v (n .inRange .terms x m .0) (n .inRange .fieldlesses x v m f) q) refl)
-      by-term nb na (inr ns) =
-          (free, unfixed (λ b m e. eqb-false _ _ (nb b (build-of t ls (n .inRange) (n .literalsInRange) b m)) e) (λ a m e. eqb-false _ _ (na a m) e)
-          (λ x v m e f h. false≢true (sym (ns x m) ∙ and-both (eqb (cls (x .term)) c) _ (eq-eqb _ _ e)
-          (any-of (alone S (x .term)) (fieldless 0 (variantsOf (t .types) (x .type))) v f (test-alone t ls (n .inRange) (n .literalsInRange) (x .term) v h)))) refl)
+          let (v, f, q) = any-some (alone S (x .term)) (fieldless 0 (variantsOf (t .types) (x .type))) (and-right (eqb (cls (x .term)) c) _ e) in (
+            node v [],
+            nullary x v m (eqb-true _ _ (and-left (eqb (cls (x .term)) c) _ e)) f
+                (alone-test t ls (n .inRange) (n .literalsInRange) (x .term) v (n .inRange .terms x m .0) (n .inRange .fieldlesses x v m f) q) refl,
+          )
+      by-term nb na (inr ns) = (
+        free,
+        unfixed (λ b m e. eqb-false _ _ (nb b (build-of t ls (n .inRange) (n .literalsInRange) b m)) e) (λ a m e. eqb-false _ _ (na a m) e)
+            (λ x v m e f h. false≢true (sym (ns x m) ∙ and-both (eqb (cls (x .term)) c) _ (eq-eqb _ _ e)
+            (any-of (alone S (x .term)) (fieldless 0 (variantsOf (t .types) (x .type))) v f (test-alone t ls (n .inRange) (n .literalsInRange) (x .term) v h)))) refl,
+      )
 
       by-const : ((b : Build) → List·Memᴰ b (buildsAt t S) → eqb (cls (b .term)) c ≡ false)
           → ((a : Const) × List·Memᴰ a (t .consts) × (eqb (cls (a .term)) c ≡ true)) ⊎ ((a : Const) → List·Memᴰ a (t .consts) → eqb (cls (a .term)) c ≡ false) → (k : Kind) × Reason c k

@@ -65,6 +65,10 @@ module _ (t : Table) (ls : List Literal) (type : ℕ → ℕ) (n : TypedNode t l
     abbrev left : List ℕ
     left = variantsLeft t S x
 
+    -- the fieldless variants of its type
+    abbrev bare : List ℕ
+    bare = fieldless 0 (variantsOf (t .types) (x .type))
+
     -- what is not left is lacking
     not-left : (u : ℕ) → (List·Memᴰ u left → ⊥) → LacksAt S (x .term) u
     not-left u k =
@@ -73,7 +77,7 @@ module _ (t : Table) (ls : List Literal) (type : ℕ → ℕ) (n : TypedNode t l
         (λ r. closure-least t ls (n .inRange) (n .literalsInRange) .rules .beyond x u m (ltb-false u many r))
 
     -- no variant left, or one alone that is fieldless: neither can be
-    not-few : isNumber (t .types) (x .type) ≡ false → kind (cls (x .term)) ≡ free → (us : List ℕ) → left ≡ us → length us < 2 → ((v : ℕ) → List·Memᴰ v us → List·Memᴰ v (fieldless 0 (variantsOf (t .types) (x .type)))) → ⊥
+    not-few : isNumber (t .types) (x .type) ≡ false → kind (cls (x .term)) ≡ free → (us : List ℕ) → left ≡ us → length us < 2 → ((v : ℕ) → List·Memᴰ v us → List·Memᴰ v bare) → ⊥
     not-few e q [] r h f =
         alone-held t ls (n .inRange) (n .literalsInRange) (x .term) 0 (omega arith) (label-held t ls S (o .notClosed) x m e) (λ u hu ne. all-lack u) (all-lack 0)
       where
@@ -94,19 +98,19 @@ module _ (t : Table) (ls : List Literal) (type : ℕ → ℕ) (n : TypedNode t l
     none-with-fields : isNumber (t .types) (x .type) ≡ false → kind (cls (x .term)) ≡ free → ((v : ℕ) → List·Memᴰ v (from many 0) → withFields (labelOf S (x .term)) (x .type) v ≡ false) → ⊥
     none-with-fields e q f = not-few e q left refl (by-test (leb 2 (length left)) many-left (leb-false 2 (length left))) plain
       where
-        plain : (v : ℕ) → List·Memᴰ v left → List·Memᴰ v (fieldless 0 (variantsOf (t .types) (x .type)))
+        plain : (v : ℕ) → List·Memᴰ v left → List·Memᴰ v bare
         plain v k = go (and-false (not (eqb (bit (labelOf S (x .term)) v) 0)) (not (eqb (length (fieldsOf (t .types) (x .type) v)) 0)) (f v (filter-is (λ v. not (lacks S (x .term) v)) (from many 0) v k .0)))
           where
-            go : (not (eqb (bit (labelOf S (x .term)) v) 0) ≡ false) ⊎ (not (eqb (length (fieldsOf (t .types) (x .type) v)) 0) ≡ false) → List·Memᴰ v (fieldless 0 (variantsOf (t .types) (x .type)))
+            go : (not (eqb (bit (labelOf S (x .term)) v) 0) ≡ false) ⊎ (not (eqb (length (fieldsOf (t .types) (x .type) v)) 0) ≡ false) → List·Memᴰ v bare
             go (inl r) = absurd (false≢true (sym r ∙ filter-is (λ v. not (lacks S (x .term) v)) (from many 0) v k .1))
             go (inr r) =
                 let (i, s) = filter-is (λ v. not (lacks S (x .term) v)) (from many 0) v k in
-                subst (λ (w : ℕ). List·Memᴰ w (fieldless 0 (variantsOf (t .types) (x .type)))) (zero-add v) (fieldless-has 0 v (variantsOf (t .types) (x .type)) (omega (arith, from-bounds many 0 v i .1)) (length-nil _ (eqb-true _ _ (not-false _ r))))
+                subst (λ (w : ℕ). List·Memᴰ w bare) (zero-add v) (fieldless-has 0 v (variantsOf (t .types) (x .type)) (omega (arith, from-bounds many 0 v i .1)) (length-nil _ (eqb-true _ _ (not-false _ r))))
 
         many-left : leb 2 (length left) ≡ true → length left < 2
         many-left r =
             absurd (false≢true (sym (o .noTerm x m) ∙ and-both (leb 2 (length left)) _ r
-            (all-true (λ v. member v (fieldless 0 (variantsOf (t .types) (x .type)))) left (λ v k. member-of v (fieldless 0 (variantsOf (t .types) (x .type))) (plain v k)))))
+            (all-true (λ v. member v bare) left (λ v k. member-of v bare (plain v k)))))
 
     held-at : isNumber (t .types) (x .type) ≡ false → kind (cls (x .term)) ≡ free → HeldVariant (cls (x .term)) (lowestHeld (cls (x .term)))
     unfolding lowestHeld

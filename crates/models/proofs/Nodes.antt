@@ -10,7 +10,7 @@ use native.Mathlib.Omega.{arith}
 use lib.Dec.{eqb}
 use borrow.Author.Tests.{eqb-true, eqb-false, not-false}
 use mathlib.Core.Option.{Option, none, some}
-use Rattle.laws.specs.All.{All, All.none}
+use Rattle.laws.specs.All.{All}
 use Rattle.laws.specs.Bits.{bit}
 use Rattle.laws.specs.Lists.{any, find}
 use Rattle.laws.proofs.Bits.{bit-own, one-set}
@@ -24,7 +24,7 @@ use Rattle.guard.specs.Rules.{Alone, BuiltAt, BuiltAt.read, BuiltAt.row, LeastC
 use Rattle.guard.specs.Terms.{Build, Const, Read, Table, Term, tableOf, termCount}
 use Rattle.guard.specs.Types.{isNumber}
 use Rattle.guard.specs.WellFormed.{WellFormed}
-use Rattle.guard.proofs.ClosureBelow.{Fine, InRange, LiteralInRange, LiteralsInRange, Sound, alone-valid, closure-sound, eqZ-true, fine-all}
+use Rattle.guard.proofs.ClosureBelow.{Fine, InRange, LiteralsInRange, Sound, alone-valid, closure-sound, eqZ-true, fine-all}
 use Rattle.guard.proofs.ClosureState.{closure-masks, closure-small, holds-rules, says-given}
 use Rattle.guard.proofs.LeastClosure.{alone-of, built-mem, closure-least}
 use Rattle.guard.proofs.TableLaws.{table-in-range}
@@ -40,22 +40,19 @@ module _ (g : Guard) where
   pub root-node : LiteralsInRange (g .literals) → NodeOf g (g .literals)
   root-node r = record { given = λ l m. m; inRange = r; equalities = λ i j m. m }
 
-  is-or-isnt : (d : Literal) → ((i j : ℕ) → ¬ (equal i j ≡ d)) → LiteralInRange d → (ls : List Literal) → NodeOf g ls → NodeOf g (d ∷ ls)
-  is-or-isnt d ne r ls n = record { given = λ l m. List·Memᴰ·tail (n .given l m); inRange = in-range; equalities = guards }
+  decided : (d : Literal) → ((i j : ℕ) → ¬ (equal i j ≡ d)) → (ls : List Literal) → LiteralsInRange (d ∷ ls) → NodeOf g ls → NodeOf g (d ∷ ls)
+  decided d ne ls r n = record { given = λ l m. List·Memᴰ·tail (n .given l m); inRange = r; equalities = guards }
     where
-      in-range : LiteralsInRange (d ∷ ls)
-      in-range l (List·Memᴰ·head e) = subst LiteralInRange (sym e) r
-      in-range l (List·Memᴰ·tail m) = n .inRange l m
-
       guards : (i j : ℕ) → List·Memᴰ (equal i j) (d ∷ ls) → List·Memᴰ (equal i j) (g .literals)
       guards i j (List·Memᴰ·head e) = absurd (ne i j e)
       guards i j (List·Memᴰ·tail m) = n .equalities i j m
 
-  pub is-node : (i v : ℕ) → i < termCount → v < variantLimit → (ls : List Literal) → NodeOf g ls → NodeOf g (is i v ∷ ls)
-  is-node i v hi hv = is-or-isnt (is i v) (λ a b e. let z : _≡_ {A = ℕ} 0 1 = cc in omega arith) (hi, hv)
+  -- the two children of a node
+  pub is-node : (i v : ℕ) (ls : List Literal) → LiteralsInRange (is i v ∷ ls) → NodeOf g ls → NodeOf g (is i v ∷ ls)
+  is-node i v = decided (is i v) (λ a b e. let z : _≡_ {A = ℕ} 0 1 = cc in omega arith)
 
-  pub isnt-node : (i v : ℕ) → i < termCount → v < variantLimit → (ls : List Literal) → NodeOf g ls → NodeOf g (isnt i v ∷ ls)
-  isnt-node i v hi hv = is-or-isnt (isnt i v) (λ a b e. let z : _≡_ {A = ℕ} 0 1 = cc in omega arith) (hi, hv)
+  pub isnt-node : (i v : ℕ) (ls : List Literal) → LiteralsInRange (isnt i v ∷ ls) → NodeOf g ls → NodeOf g (isnt i v ∷ ls)
+  isnt-node i v = decided (isnt i v) (λ a b e. let z : _≡_ {A = ℕ} 0 1 = cc in omega arith)
 
 -- a table and literals in range, with the type of each term
 pub record TypedNode (t : Table) (ls : List Literal) (type : ℕ → ℕ) : Type 0 where
@@ -141,7 +138,7 @@ module _ (t : Table) (ls : List Literal) (range : InRange t) (literalsIn : Liter
   abbrev S : State
   S = closureOf t ls
 
-  abbrev pub Built : Build → Type 0
+  abbrev Built : Build → Type 0
   Built = BuiltAt t (LacksAt (closureOf t ls))
 
   least : LeastClosure t ls (SameAt S) (LacksAt S)

@@ -11,7 +11,7 @@ use lib.Dec.{eqb}
 use lib.ListN.{length, getD, length-append}
 use borrow.Author.Tests.{eqb-true, eqb-false, eq-eqb}
 use mathlib.Core.Option.{Option, none, some}
-use Rattle.laws.specs.All.{All, All.none}
+use Rattle.laws.specs.All.{All}
 use Rattle.laws.specs.Lists.{concatMap, filter, from, member, union, when}
 use Rattle.laws.proofs.Lists.{all-map, all-mem, all-of, all-when, mem-concatMap, mem-concatMap-inv, mem-map}
 use Rattle.laws.proofs.Members.{filter-lt, filter-most, member-of, missing, missing-falls, missing-none, of-member, union-inv, union-left, union-new, union-right, union-same}
@@ -172,9 +172,15 @@ row-builds ts i (r ∷ rs) =
 pub few-builds : (g : Guard) (s : State) → length (buildsAt (tableOf g) s) ≤ length (g .rows) + length (g .types)
 unfolding tableOf
 few-builds g s =
-    omega (arith, row-builds (g .types) 0 (g .rows), length-append (rows ++ defaultBuilds) (concatMap (readBuild s) reads), length-append rows defaultBuilds,
-    concatMap-most (λ t. defaultBuild (g .types) t (getD (defaults (g .types)) t none)) (from (length (g .types)) 0) (λ t. default-one t (getD (defaults (g .types)) t none)),
-    concatMap-most (readBuild s) reads (λ r. read-one r (alone s (r .term) (r .variant))), from-length (length (g .types)) 0)
+    omega (
+      arith,
+      row-builds (g .types) 0 (g .rows),
+      length-append (rows ++ defaultBuilds) (concatMap (readBuild s) reads),
+      length-append rows defaultBuilds,
+      concatMap-most (λ t. defaultBuild (g .types) t (getD (defaults (g .types)) t none)) (from (length (g .types)) 0) (λ t. default-one t (getD (defaults (g .types)) t none)),
+      concatMap-most (readBuild s) reads (λ r. read-one r (alone s (r .term) (r .variant))),
+      from-length (length (g .types)) 0,
+    )
   where
     rows : List Build
     rows = fromRows buildOf 0 (g .rows)

@@ -11,7 +11,7 @@ use lib.ListN.{length, getD}
 use borrow.Author.Tests.{eqb-true, eqb-false, lt-ltb, le-ltb}
 use mathlib.Core.Option.{none, some}
 use native.Mathlib.Nat.{add-zero}
-use Rattle.laws.specs.All.{All, All.more, All.none}
+use Rattle.laws.specs.All.{All, All.more}
 use Rattle.laws.proofs.Lists.{all-getD, all-map, all-mem, all-of, map-cong, map-inv, mem-map}
 use Rattle.guard.specs.Guard.{Guard, Literal.equal, Row, Row.built, Row.constant, Row.field, Row.variable, rowAt, typeAt, typeOf}
 use Rattle.guard.specs.Limits.{Limits, Supported}
