@@ -1,6 +1,6 @@
 -- The nodes of a guard's search. The literals of a node are the guard's and decisions, so its equalities are the
--- guard's. A node is open if it is not closed, for none of the four reasons, and neither a read nor a term splits it;
--- that is asked of all reads and terms, so it does not matter in what order splits are looked for. Assumes nothing.
+-- guard's. A node is open if none of the four reasons closes it and no read and no term splits it. That is asked of
+-- every read and every term, so it does not matter in what order splits are looked for. Assumes nothing.
 use mathlib.Core.Path.{_≡_, refl, sym, _∙_, subst}
 use mathlib.Core.Bool.{Bool, true, false, not, false≢true, _&&_}
 use mathlib.Core.List.{List, _∷_, List·Memᴰ, List·Memᴰ·head, List·Memᴰ·tail}

@@ -32,11 +32,14 @@ pub record BuildTyped (t : Table) (type : ℕ → ℕ) (b : Build) : Type 0 wher
 
 pub record TableTyped (t : Table) (type : ℕ → ℕ) : Type 0 where
   pub terms : (x : Term) → List·Memᴰ x (t .terms) → type (x .term) ≡ x .type
+  -- one of the types
   pub known : (x : Term) → List·Memᴰ x (t .terms) → x .type < length (t .types)
   pub builds : (b : Build) → List·Memᴰ b (t .builds) → BuildTyped t type b
   pub reads : (r : Read) → List·Memᴰ r (t .reads) → BuildTyped t type (asBuild r)
+  -- a read has its field's type, and so has what it equals where the variant is absent
   pub rows : (r : Read) → List·Memᴰ r (t .reads) → type (r .row) ≡ fieldType (t .types) (r .type) (r .variant) (r .position)
   pub absents : (r : Read) → List·Memᴰ r (t .reads) → type (r .absent) ≡ type (r .row)
+  -- constants are terms of number types
   pub constTerms : (c : Const) → List·Memᴰ c (t .consts) → List·Memᴰ (record { term = c .term; type = c .type }) (t .terms)
   pub constTypes : (c : Const) → List·Memᴰ c (t .consts) → isNumber (t .types) (c .type) ≡ true
 
