@@ -221,7 +221,7 @@ pair-small (p ∷ ps) (f ∷ fs) (more h hs) x (List·Memᴰ·head e) = subst (�
 pair-small (p ∷ ps) (f ∷ fs) (more h hs) x (List·Memᴰ·tail m) = pair-small ps fs hs x m
 
 module _ (limits : Limits) (sup : Supported limits) (g : Guard) (ok : WellFormed limits g) where
-  pub few-types : length (g .types) ≤ 6
+  few-types : length (g .types) ≤ 6
   few-types = omega (arith, ok .typeCount, sup .types)
 
   pub few-rows : length (g .rows) ≤ 24

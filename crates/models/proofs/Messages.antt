@@ -99,7 +99,7 @@ module _ (t : Table) (ls : List Literal) (type : ℕ → ℕ) (n : TypedNode t l
       pub belongs : (c : ℕ) → NeededClass t ls type n o Need c → kind c ≡ free → Belongs (t .types) (freeMessage c) (type c)
       pub held : (x : Term) → List·Memᴰ x (t .terms) → Need (cls (x .term)) → kind (cls (x .term)) ≡ free → (v : ℕ) → IsVariant (freeMessage (cls (x .term))) v → ¬ LacksAt S (x .term) v
       pub apart : (w u k : ℕ) → NeededClass t ls type n o Need w → NeededClass t ls type n o Need u → Leaf (kind w) → kind u ≡ free → k ≤ highest
-          → down at k (freeMessage u) ≡ classMessage w → w ≡ u
+          → down at k (classMessage u) ≡ classMessage w → w ≡ u
 
     pub solution : (Need : ℕ → Type 0) (at : ℕ → ℕ → ℕ) → FreeMessages Need at → Solution t ls type n o Need at classMessage classRank highest
     solution Need at f =
@@ -112,7 +112,7 @@ module _ (t : Table) (ls : List Literal) (type : ℕ → ℕ) (n : TypedNode t l
           constVal = λ c z i e. const-message c z e;
           freeBelongs = λ c i e. subst (λ (m : Message). Belongs (t .types) m (type c)) (sym (free-message c e)) (f .belongs c i e);
           freeHeld = λ x m nd e v h. f .held x m nd e v (subst (λ (w : Message). IsVariant w v) (free-message (cls (x .term)) e) h);
-          apart = λ w u k iw iu l e h q. f .apart w u k iw iu l e h (ap (down at k) (sym (free-message u e)) ∙ q);
+          apart = f .apart;
         }
 
 -- ---- an open node of a guard has a model
