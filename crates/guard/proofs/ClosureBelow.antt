@@ -182,7 +182,7 @@ module _ (t : Table) (ls : List Literal) (ranged : InRange t) (literalsIn : Lite
     abbrev In : ℕ → Type 0
     In p = p < termCount
 
-    alone-valid : (i v : ℕ) → i < termCount → v < variantLimit → alone s i v ≡ true → Alone Lacks i v
+    pub alone-valid : (i v : ℕ) → i < termCount → v < variantLimit → alone s i v ≡ true → Alone Lacks i v
     alone-valid i v hi hv e u hu n = lacks-valid s ok i u hi hu (go (or-cases (eqb (labelOf s i) (2 ^ v)) (eqb (labelOf s i) 0) e))
       where
         go : (eqb (labelOf s i) (2 ^ v) ≡ true) ⊎ (eqb (labelOf s i) 0 ≡ true) → bit (labelOf s i) u ≡ 0

@@ -32,7 +32,7 @@ eqZ-of a b e = subst (λ (z : ℤ). eqZ a z ≡ true) e (go a)
     go (negsuc n) = eq-eqb n n refl
 
 -- the converse of the test `alone`
-alone-of : (s : State) → Small s → (i v : ℕ) → ((u : ℕ) → u < variantLimit → ¬ (u ≡ v) → bit (labelOf s i) u ≡ 0) → alone s i v ≡ true
+pub alone-of : (s : State) → Small s → (i v : ℕ) → ((u : ℕ) → u < variantLimit → ¬ (u ≡ v) → bit (labelOf s i) u ≡ 0) → alone s i v ≡ true
 unfolding Small
 alone-of s h i v f = go (one-set variantLimit v (labelOf s i) (h (classOf s i)) f)
   where
@@ -129,7 +129,7 @@ module _ (t : Table) (ls : List Literal) (ranged : InRange t) (literalsIn : Lite
       go : All (Says S) (same i j ∷ []) → SameAt S i j
       go (more e es) = unfold Says in e
 
-  built-mem : (b : Build) → BuiltAt t (LacksAt S) b → List·Memᴰ b (buildsAt t S)
+  pub built-mem : (b : Build) → BuiltAt t (LacksAt S) b → List·Memᴰ b (buildsAt t S)
   built-mem b (row m) = Memᴰ·append-left (concatMap (readBuild S) (t .reads)) m
   built-mem b (read r m f e) =
       Memᴰ·append-right (t .builds) (mem-concatMap (readBuild S) (t .reads) m (go (alone S (r .term) (r .variant)) (alone-of S small (r .term) (r .variant) f)))

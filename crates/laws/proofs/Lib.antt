@@ -1,5 +1,6 @@
 pub mod Bools
 pub mod Lists
+pub mod Members
 pub mod Bits
 pub mod Stores
 pub mod Products

@@ -237,6 +237,12 @@ module _ {A : Type 0} where
   map-from-length f zero a = refl
   map-from-length f (suc n) a = ap suc (map-from-length f n (suc a))
 
+pub map-from-snoc : {A : Type 0} (f : ℕ → A) (n a : ℕ) → map f (from (suc n) a) ≡ map f (from n a) ++ (f (a + n) ∷ [])
+map-from-snoc f zero a = let e : a ≡ a + 0 = omega arith in ap (λ (k : ℕ). f k ∷ []) e
+map-from-snoc f (suc n) a =
+    let e : suc a + n ≡ a + suc n = omega arith in
+    ap (λ l. f a ∷ l) (map-from-snoc f n (suc a) ∙ ap (λ (k : ℕ). map f (from n (suc a)) ++ (f k ∷ [])) e)
+
 pub map-cong : {A B : Type 0} (f g : A → B) (xs : List A) → ((x : A) → List·Memᴰ x xs → f x ≡ g x) → map f xs ≡ map g xs
 map-cong f g [] h = refl
 map-cong f g (x ∷ xs) h =
@@ -247,6 +253,14 @@ map-cong f g (x ∷ xs) h =
 pub map-length : {A B : Type 0} (f : A → B) (xs : List A) → length (map f xs) ≡ length xs
 map-length f [] = refl
 map-length f (x ∷ xs) = ap suc (map-length f xs)
+
+pub map-map : {A B C : Type 0} (f : B → C) (g : A → B) (xs : List A) → map f (map g xs) ≡ map (λ x. f (g x)) xs
+map-map f g [] = refl
+map-map f g (x ∷ xs) = ap (λ l. f (g x) ∷ l) (map-map f g xs)
+
+pub length-nil : {A : Type 0} (xs : List A) → length xs ≡ 0 → xs ≡ []
+length-nil [] e = refl
+length-nil (x ∷ xs) e = absurd (omega arith)
 
 -- ---- sums
 
