@@ -1,3 +1,5 @@
 pub mod Paths
 pub mod Injective
+pub mod Orbit
 pub mod Grow
+pub mod FiniteTypes

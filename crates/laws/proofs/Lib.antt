@@ -2,3 +2,5 @@ pub mod Bools
 pub mod Lists
 pub mod Bits
 pub mod Stores
+pub mod Members
+pub mod Positions
