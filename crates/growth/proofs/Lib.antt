@@ -3,3 +3,4 @@ pub mod Injective
 pub mod Orbit
 pub mod Grow
 pub mod FiniteTypes
+pub mod Growth
