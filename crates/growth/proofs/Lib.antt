@@ -4,3 +4,4 @@ pub mod Orbit
 pub mod Grow
 pub mod FiniteTypes
 pub mod Growth
+pub mod Plans
