@@ -73,6 +73,10 @@ module _ (ts : Types) where
   abbrev pub periodOf : ℕ → ℕ
   periodOf = period nextType (length ts)
 
+  -- the least number of steps of growth to a number type, or the number of types where there is none
+  abbrev pub stepsToNumber : ℕ → ℕ
+  stepsToNumber t = least (λ k. isNumber ts (iterate nextType k t)) (length ts)
+
   abbrev pub Infinite : ℕ → Type 0
   Infinite t = (t < length ts) × (infinite ts t ≡ true)
 

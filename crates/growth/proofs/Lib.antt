@@ -5,3 +5,5 @@ pub mod Grow
 pub mod FiniteTypes
 pub mod Growth
 pub mod Plans
+pub mod ClosedPlans
+pub mod Rows

@@ -4,3 +4,4 @@ pub mod Bits
 pub mod Stores
 pub mod Members
 pub mod Positions
+pub mod Counts
