@@ -5,18 +5,18 @@
 -- list are ever added; so after as many steps as types nothing changes. Assumes nothing.
 use mathlib.Core.Path.{_≡_, refl, ap, sym, _∙_, fun-ext}
 use mathlib.Core.Bool.{Bool, true, false, not, false≢true, _&&_, _||_}
-use mathlib.Core.Logic.{_⊎_, inl, inr}
+use mathlib.Core.Logic.{_⊎_, inl, inr, _↔_}
 use Prim.Native.Nat.{ℕ, zero, suc, _*_, _≤_, _<_}
 use native.Mathlib.Omega.{arith}
 use lib.Dec.{eqb, ltb}
-use lib.ListN.{length, List·getD-eq-default}
-use borrow.Author.Tests.{eqb-true, eqb-false, ltb-true, ltb-false, not-true, not-false}
-use mathlib.Core.List.{[], _∷_, List·Memᴰ}
+use lib.ListN.{length, List·getD-eq-default, getD}
+use borrow.Author.Tests.{eqb-true, eqb-false, ltb-true, ltb-false, not-true, not-false, ne-eqb}
+use mathlib.Core.List.{[], _∷_, List·Memᴰ, List}
 use Rattle.laws.specs.Lists.{all, filter, from}
 use Rattle.laws.proofs.Bools.{and-both, and-left, and-right}
 use Rattle.laws.proofs.Lists.{from-length, mem-from}
 use Rattle.laws.proofs.Members.{filter-lt, filter-most, find-cases}
-use Rattle.laws.proofs.Positions.{all-true-at, all-true-from, all-true-weaken, any-true-at}
+use Rattle.laws.proofs.Positions.{all-false-at, all-true-at, all-true-from, all-true-weaken, any-true-at}
 use Rattle.guard.specs.Types.{Types, Variant, fieldType, fieldsOf, finite, finiteType, infiniteField, infiniteFields, isNumber, variantsOf}
 
 module _ (ts : Types) where
@@ -119,29 +119,62 @@ module _ (ts : Types) where
       below zero t e = absurd (false≢true e)
       below (suc j) t e = h t (step-weaken (finiteAfter j) p (below j) t e)
 
+  -- the same by positions
+  pub finite-iff : (t : ℕ) → (finite ts t ≡ true) ↔ ((isNumber ts t ≡ false) × ((v p : ℕ) → v < length (variantsOf ts t) → p < length (fieldsOf ts t v) → finite ts (fieldType ts t v p) ≡ true))
+  finite-iff t = (forth, back)
+    where
+      forth : finite ts t ≡ true → (isNumber ts t ≡ false) × ((v p : ℕ) → v < length (variantsOf ts t) → p < length (fieldsOf ts t v) → finite ts (fieldType ts t v p) ≡ true)
+      forth e =
+          let q : finiteStep (finite ts) t ≡ true = sym (finite-exactly t) ∙ e in (
+            not-true _ (and-left (not (isNumber ts t)) (all (all (finite ts)) (variantsOf ts t)) q),
+            λ v p hv hp. all-true-at (finite ts) (fieldsOf ts t v) p 0 (all-true-at (all (finite ts)) (variantsOf ts t) v [] (and-right (not (isNumber ts t)) (all (all (finite ts)) (variantsOf ts t)) q) hv) hp,
+          )
+
+      back : (isNumber ts t ≡ false) × ((v p : ℕ) → v < length (variantsOf ts t) → p < length (fieldsOf ts t v) → finite ts (fieldType ts t v p) ≡ true) → finite ts t ≡ true
+      back (e, f) =
+          finite-exactly t
+          ∙ and-both (not (isNumber ts t)) (all (all (finite ts)) (variantsOf ts t)) (ap not e)
+          (all-true-from (all (finite ts)) (variantsOf ts t) [] (λ v hv. all-true-from (finite ts) (fieldsOf ts t v) 0 (λ p hp. f v p hv hp)))
+
   -- ---- infinite types
 
-  pub infinite : ℕ → Bool
+  unfoldable pub infinite : ℕ → Bool
   infinite t = not (finite ts t)
 
-  -- an infinite variant type has a variant with fields
-  pub infinite-has-fields : (t : ℕ) → isNumber ts t ≡ false → infinite t ≡ true → ¬ ((v : ℕ) → v < length (variantsOf ts t) → length (fieldsOf ts t v) ≡ 0)
+  -- an infinite variant type has a variant with an infinite field
+  pub infinite-variant : (t : ℕ) → isNumber ts t ≡ false → infinite t ≡ true
+      → (v : ℕ) × (v < length (variantsOf ts t)) × ((p : ℕ) × (p < length (fieldsOf ts t v)) × (infinite (fieldType ts t v p) ≡ true))
   unfolding infinite
-  infinite-has-fields t e i h =
-      false≢true (sym (not-true _ i) ∙ finite-exactly t
-      ∙ and-both (not (isNumber ts t)) (all (all (finite ts)) (variantsOf ts t)) (ap not e) (all-true-from (all (finite ts)) (variantsOf ts t) [] (λ v l. none-fail (fieldsOf ts t v) (h v l))))
+  infinite-variant t e i =
+      let (v, hv, a) = all-false-at (all (finite ts)) (variantsOf ts t) [] (fails (isNumber ts t) e (sym (finite-exactly t) ∙ not-true _ i)) in
+      let (p, hp, b) = all-false-at (finite ts) (fieldsOf ts t v) 0 a in
+      (v, hv, (p, hp, ap not b))
     where
-      none-fail : (fs : Variant) → length fs ≡ 0 → all (finite ts) fs ≡ true
-      none-fail [] q = refl
-      none-fail (f ∷ fs) q = absurd (omega arith)
+      fails : (b : Bool) → b ≡ false → (not b && all (all (finite ts)) (variantsOf ts t)) ≡ false → all (all (finite ts)) (variantsOf ts t) ≡ false
+      fails true q r = absurd (false≢true (sym q))
+      fails false q r = r
+
+  -- only a type with variants has fields
+  pub has-variant : (t v : ℕ) → 0 < length (fieldsOf ts t v) → v < length (variantsOf ts t)
+  has-variant t v h = go (variantsOf ts t) v h
+    where
+      go : (vs : List Variant) (v : ℕ) → 0 < length (getD vs v []) → v < length vs
+      go [] v h = absurd (omega arith)
+      go (x ∷ xs) zero h = omega arith
+      go (x ∷ xs) (suc v) h = omega (arith, go xs v h)
+
+  pub no-number : (t v : ℕ) → 0 < length (fieldsOf ts t v) → isNumber ts t ≡ false
+  no-number t v h = ne-eqb (length (variantsOf ts t)) 0 (λ e. omega (arith, has-variant t v h))
 
   -- question 9: a variant with fields has an infinite one
   pub infinite-field : infiniteFields ts ≡ true → (t v : ℕ) → 0 < length (fieldsOf ts t v) → (p : ℕ) × (p < length (fieldsOf ts t v)) × (infinite (fieldType ts t v p) ≡ true)
   unfolding infinite
-  infinite-field q t v h = any-true-at (λ t. not (finite ts t)) (fieldsOf ts t v) 0 (has (eqb (length (fieldsOf ts t v)) 0) refl holds)
+  infinite-field q t v h = any-true-at (λ t. not (finite ts t)) (fieldsOf ts t v) 0 (has (eqb (length (fieldsOf ts t v)) 0) refl asked)
     where
-      holds : (eqb (length (fieldsOf ts t v)) 0 || infiniteField ts (fieldsOf ts t v)) ≡ true
-      holds = all-true-at (λ fs. eqb (length fs) 0 || infiniteField ts fs) (variantsOf ts t) v [] (all-true-at (all (λ fs. eqb (length fs) 0 || infiniteField ts fs)) ts t [] q refl) refl
+      asked : (eqb (length (fieldsOf ts t v)) 0 || infiniteField ts (fieldsOf ts t v)) ≡ true
+      asked =
+          all-true-at (λ fs. eqb (length fs) 0 || infiniteField ts fs) (variantsOf ts t) v []
+          (all-true-at (all (λ fs. eqb (length fs) 0 || infiniteField ts fs)) ts t [] q (variant-type-inside t (no-number t v h))) (has-variant t v h)
 
       has : (b : Bool) → eqb (length (fieldsOf ts t v)) 0 ≡ b → (b || infiniteField ts (fieldsOf ts t v)) ≡ true → infiniteField ts (fieldsOf ts t v) ≡ true
       has true e r = absurd (omega (arith, eqb-true (length (fieldsOf ts t v)) 0 e))

@@ -9,23 +9,23 @@ use mathlib.Core.List.{List, [], _∷_, map}
 use Prim.Native.Nat.{ℕ, zero, suc, _≤_, _<_}
 use native.Mathlib.Omega.{arith}
 use lib.ListN.{length, getD, List·getD-eq-default}
-use borrow.Author.Tests.{ne-eqb, ltb-true, ltb-false}
+use borrow.Author.Tests.{ltb-true, ltb-false, lt-ltb}
 use lib.Dec.{ltb}
 use mathlib.Core.Option.{Option, none, some}
 use lib.IntN.{ℤ, pos}
 use Rattle.laws.specs.All.{All, All.more}
 use Rattle.laws.proofs.Lists.{all-getD}
-use Rattle.laws.proofs.Positions.{least, least-first, least-le, least-passes}
+use Rattle.laws.proofs.Positions.{least, least-le, least-passes}
 use Rattle.guard.specs.Guard.{Guard}
 use Rattle.guard.specs.Limits.{Limits}
 use Rattle.guard.specs.Meaning.{BelongAll, Belongs}
 use Rattle.guard.specs.Message.{Message, Message.made, Message.number, Parts, toParts}
-use Rattle.guard.specs.Types.{Types, Variant, defaultOf, defaults, fieldType, fieldsOf, infiniteFields, isNumber, orNone, variantsOf}
+use Rattle.guard.specs.Types.{Types, defaultOf, defaults, fieldType, fieldsOf, infiniteFields, isNumber, orNone, variantsOf}
 use Rattle.guard.specs.WellFormed.{WellFormed}
 use Rattle.guard.proofs.DefaultLaws.{Each, Each.each-cons, Each.each-nil, default-belongs, default-ind}
-use Rattle.growth.proofs.FiniteTypes.{infinite, infinite-field, infinite-has-fields}
+use Rattle.growth.proofs.FiniteTypes.{has-variant, infinite, infinite-field, infinite-variant}
 use Rattle.growth.proofs.Grow.{Growing, chosen, cyclic-growing, end-grow, end-wrap, fill, grow, onward, wrap}
-use Rattle.growth.proofs.Orbit.{distance, iterate, period, root, root-step, within}
+use Rattle.growth.proofs.Orbit.{distance, iterate, period, root, root-step, orbit-within}
 use Rattle.growth.proofs.Paths.{end, endAt}
 
 -- what growth needs of the types: questions 8 and 9, and field types in range
@@ -81,20 +81,8 @@ module _ (ts : Types) where
   Infinite t = (t < length ts) × (infinite ts t ≡ true)
 
   -- growth from the type meets no number type
-  pub Cyclic : ℕ → Type 0
+  unfoldable pub Cyclic : ℕ → Type 0
   Cyclic t = Infinite t × ((k : ℕ) → isNumber ts (iterate nextType k t) ≡ false)
-
-  has-variant : (t v : ℕ) → 0 < length (fieldsOf ts t v) → v < length (variantsOf ts t)
-  has-variant t v h = go (variantsOf ts t) v h
-    where
-      go : (vs : List Variant) (v : ℕ) → 0 < length (getD vs v []) → v < length vs
-      go [] v h = absurd (omega arith)
-      go (x ∷ xs) zero h = omega arith
-      go (x ∷ xs) (suc v) h = omega (arith, go xs v h)
-
-  -- a type with a variant with fields is no number type
-  pub no-number : (t v : ℕ) → 0 < length (fieldsOf ts t v) → isNumber ts t ≡ false
-  no-number t v h = ne-eqb (length (variantsOf ts t)) 0 (λ e. omega (arith, has-variant t v h))
 
   module _ (accepted : TypesAccepted ts) where
     chosen-found : (t v : ℕ) → 0 < length (fieldsOf ts t v) → (chosenField t v < length (fieldsOf ts t v)) × (infinite ts (fieldType ts t v (chosenField t v)) ≡ true)
@@ -122,21 +110,17 @@ module _ (ts : Types) where
 
     -- an infinite variant type grows
     infinite-grows : (t : ℕ) → Infinite t → isNumber ts t ≡ false → 0 < length (fieldsOf ts t (growingVariant t))
-    infinite-grows t (l, i) e = go (ltb (growingVariant t) (length (variantsOf ts t))) refl
-      where
-        go : (b : Bool) → ltb (growingVariant t) (length (variantsOf ts t)) ≡ b → 0 < length (fieldsOf ts t (growingVariant t))
-        go true q = ltb-true _ _ (least-passes (λ v. ltb 0 (length (fieldsOf ts t v))) (length (variantsOf ts t)) (ltb-true _ _ q))
-        go false q =
-            let past : length (variantsOf ts t) ≤ growingVariant t = ltb-false _ _ q in
-            absurd (infinite-has-fields ts t e i
-            (λ v h. omega (arith, ltb-false 0 (length (fieldsOf ts t v)) (least-first (λ v. ltb 0 (length (fieldsOf ts t v))) (length (variantsOf ts t)) v (omega arith)))))
+    infinite-grows t (l, i) e =
+        let (v, hv, (p, hp, q)) = infinite-variant ts t e i in
+        let a : growingVariant t ≤ v = least-le (λ v. ltb 0 (length (fieldsOf ts t v))) (length (variantsOf ts t)) v (lt-ltb 0 (length (fieldsOf ts t v)) (omega arith)) in
+        ltb-true 0 (length (fieldsOf ts t (growingVariant t))) (least-passes (λ v. ltb 0 (length (fieldsOf ts t v))) (length (variantsOf ts t)) (omega arith))
 
     -- ---- into a number type, or round a cycle
 
     -- no number type within as many steps as types: none at all
     pub cyclic-of : (t : ℕ) → Infinite t → ((j : ℕ) → j < length ts → isNumber ts (iterate nextType j t) ≡ false) → Cyclic t
     unfolding Cyclic
-    cyclic-of t i f = (i, λ k. let (j, l, e) = within nextType (length ts) next-less t (i .0) k in ap (isNumber ts) (sym e) ∙ f j l)
+    cyclic-of t i f = (i, λ k. let (j, l, e) = orbit-within nextType (length ts) next-less t (i .0) k in ap (isNumber ts) (sym e) ∙ f j l)
 
     pub cyclic-less : (t : ℕ) → Cyclic t → t < length ts
     unfolding Cyclic
@@ -170,7 +154,7 @@ module _ (ts : Types) where
         go : (b : Bool) → ltb d (length ts) ≡ b → d < length ts
         go true q = ltb-true _ _ q
         go false q =
-            let (j, l, r) = within nextType (length ts) next-less t h d in
+            let (j, l, r) = orbit-within nextType (length ts) next-less t h d in
             absurd (false≢true (sym (f j (omega (arith, ltb-false d (length ts) q))) ∙ ap (isNumber ts) r ∙ e))
 
     -- ---- paths of grown messages, and of defaults
@@ -221,7 +205,7 @@ module _ (ts : Types) where
     fill-belongs (f ∷ fs) (suc p) m (more a bs) h b = (defaultOf-belongs f a, fill-belongs fs p m bs (omega arith) b)
 
     pub wrap-belongs : (t v : ℕ) (m : Message) → 0 < length (fieldsOf ts t v) → Belongs ts m (chosenType t v) → Belongs ts (wrapIn t v m) t
-    wrap-belongs t v m h b = (refl, has-variant t v h, fill-belongs (fieldsOf ts t v) (chosenField t v) m (accepted .fieldTypes t v) (chosen-inside accepted t v h) b)
+    wrap-belongs t v m h b = (refl, has-variant ts t v h, fill-belongs (fieldsOf ts t v) (chosenField t v) m (accepted .fieldTypes t v) (chosen-inside accepted t v h) b)
 
     pub grow-belongs : (n t : ℕ) (e : Message) → GrowsBy n t → Belongs ts e (iterate nextType n t) → Belongs ts (growFrom n t e) t
     grow-belongs zero t e g b = b

@@ -110,15 +110,15 @@ module _ (f : ℕ → ℕ) where
 
   module _ (n : ℕ) where
     -- the lowest number of the cycle that the orbit of x ends in
-    pub root : ℕ → ℕ
+    unfoldable pub root : ℕ → ℕ
     root x = lowest n (iterate n x)
 
     -- the least number of steps from x to its root
-    pub distance : ℕ → ℕ
+    unfoldable pub distance : ℕ → ℕ
     distance x = least (λ k. eqb (iterate k x) (root x)) n
 
     -- the least positive number of steps from r back to r, at most n
-    pub period : ℕ → ℕ
+    unfoldable pub period : ℕ → ℕ
     period r = suc (least (λ k. eqb (iterate (suc k) r) r) (n - 1))
 
     pub period-positive : (r : ℕ) → 0 < period r
@@ -147,9 +147,9 @@ module _ (f : ℕ → ℕ) where
           ap (λ (j : ℕ). iterate j x) (sym e1) ∙ iterate-add l (k - l) x ∙ ap (iterate (k - l)) (repeat x h .equal)
           ∙ sym (iterate-add (l + g) (k - l) x) ∙ ap (λ (j : ℕ). iterate j x) e2
 
-      within-fuel : (x : ℕ) → x < n → (fuel k : ℕ) → k ≤ fuel → (j : ℕ) × (j < n) × (iterate j x ≡ iterate k x)
-      within-fuel x h zero k hk = (k, omega arith, refl)
-      within-fuel x h (suc fuel) k hk = go (within-fuel x h fuel) (ltb k n) refl
+      orbit-within-fuel : (x : ℕ) → x < n → (fuel k : ℕ) → k ≤ fuel → (j : ℕ) × (j < n) × (iterate j x ≡ iterate k x)
+      orbit-within-fuel x h zero k hk = (k, omega arith, refl)
+      orbit-within-fuel x h (suc fuel) k hk = go (orbit-within-fuel x h fuel) (ltb k n) refl
         where
           go : ((k : ℕ) → k ≤ fuel → (j : ℕ) × (j < n) × (iterate j x ≡ iterate k x)) → (b : Bool) → ltb k n ≡ b → (j : ℕ) × (j < n) × (iterate j x ≡ iterate k x)
           go ih true e = (k, ltb-true k n e, refl)
@@ -163,8 +163,8 @@ module _ (f : ℕ → ℕ) where
               (j, l, r ∙ turn x h (k - g) (omega arith) ∙ ap (λ (j : ℕ). iterate j x) q)
 
       -- each number of an orbit is met within the first n steps
-      pub within : (x : ℕ) → x < n → (k : ℕ) → (j : ℕ) × (j < n) × (iterate j x ≡ iterate k x)
-      within x h k = within-fuel x h k k (omega arith)
+      pub orbit-within : (x : ℕ) → x < n → (k : ℕ) → (j : ℕ) × (j < n) × (iterate j x ≡ iterate k x)
+      orbit-within x h k = orbit-within-fuel x h k k (omega arith)
 
       root-at : (x : ℕ) → (k : ℕ) × (n ≤ k) × (root x ≡ iterate k x)
       unfolding root
@@ -174,7 +174,7 @@ module _ (f : ℕ → ℕ) where
       root-least : (x : ℕ) → x < n → (k : ℕ) → n ≤ k → root x ≤ iterate k x
       unfolding root
       root-least x h k hk =
-          let (j, l, e) = within (iterate n x) (iterate-less n x h) (k - n) in
+          let (j, l, e) = orbit-within (iterate n x) (iterate-less n x h) (k - n) in
           let q : n + (k - n) ≡ k = omega arith in
           let r : iterate k x ≡ iterate j (iterate n x) = ap (λ (j : ℕ). iterate j x) (sym q) ∙ iterate-add n (k - n) x ∙ sym e in
           omega (arith, r, lowest-le n j (iterate n x) (omega arith))
@@ -199,7 +199,7 @@ module _ (f : ℕ → ℕ) where
       unfolding distance
       distance-found x h =
           let (k, h1, e) = root-at x in
-          let (j, l, q) = within x h k in
+          let (j, l, q) = orbit-within x h k in
           let a : least (λ k. eqb (iterate k x) (root x)) n ≤ j = least-le (λ k. eqb (iterate k x) (root x)) n j (eq-eqb _ _ (q ∙ sym e)) in
           (omega arith, eqb-true _ _ (least-passes (λ k. eqb (iterate k x) (root x)) n (omega arith)))
 

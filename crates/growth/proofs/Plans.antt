@@ -93,9 +93,11 @@ module _ (ts : Types) where
     planned-end : (t : ℕ) (p : Plan) (u : ℕ) (z : ℤ) → PlanFits t p → howPlanned t p ≡ ending u z → (end (chosenField ts) (planned t p) ≡ number u z) × (endNumber p ≡ some z)
     planned-end t (atOnce y) u z f e = (cc, cc)
     planned-end t (into v d y) u z f e =
-        let a : number (iterate (nextType ts) d (chosenType ts t v)) y ≡ number u z = cc in
-        (path-end-wrap ts accepted t v (growFrom ts d (chosenType ts t v) (number (iterate (nextType ts) d (chosenType ts t v)) y)) (f .0)
-        ∙ path-end-grow ts accepted d (chosenType ts t v) (number (iterate (nextType ts) d (chosenType ts t v)) y) (into-growth t v d y f) ∙ a, cc)
+        let a : number (iterate (nextType ts) d (chosenType ts t v)) y ≡ number u z = cc in (
+          path-end-wrap ts accepted t v (growFrom ts d (chosenType ts t v) (number (iterate (nextType ts) d (chosenType ts t v)) y)) (f .0)
+              ∙ path-end-grow ts accepted d (chosenType ts t v) (number (iterate (nextType ts) d (chosenType ts t v)) y) (into-growth t v d y f) ∙ a,
+          cc,
+        )
     planned-end t (around v n) u z f e = let y : _≡_ {A = ℕ} 0 1 = cc in absurd (omega arith)
 
   planned-turn : (t : ℕ) (p : Plan) (v n : ℕ) → howPlanned t p ≡ turning v n → p ≡ around v n

@@ -2,7 +2,7 @@
 -- root one chain of grown messages, as long as the laps of all its classes together, since the chain of a class with fewer
 -- laps is an end of it; for each class the messages on its way to the root, or to its number, fewer than there are types.
 -- With the defaults these hold all their parts, and each class is counted for one root, which bounds their
--- number. Assumes nothing.
+-- number. With the messages of all classes they make the whole list of rows. Assumes nothing.
 use mathlib.Core.Path.{_≡_, refl, ap, sym, _∙_, subst}
 use mathlib.Core.Bool.{Bool, true, false, _&&_}
 use mathlib.Core.List.{List, [], _∷_, List·Memᴰ, List·Memᴰ·head, List·Memᴰ·tail, _++_, map, List·Memᴰ·not-nil, List·Memᴰ·append-cases, Memᴰ·append-left, Memᴰ·append-right}
@@ -18,13 +18,15 @@ use Rattle.laws.specs.All.{All, All.more}
 use Rattle.laws.specs.Lists.{concatMap, from, sum}
 use Rattle.laws.proofs.Bools.{and-both, and-right}
 use Rattle.laws.proofs.Counts.{concatMap-length, count-by-key, countBy, sum-map-most, sum-map-times}
-use Rattle.laws.proofs.Lists.{all-mem, from-bounds, from-length, map-inv, mem-concatMap, mem-concatMap-inv, mem-from, sum-map-le}
+use Rattle.laws.proofs.Lists.{all-mem, from-bounds, from-length, map-from-length, map-inv, mem-concatMap, mem-concatMap-inv, mem-from, mem-map, sum-map-le}
 use Rattle.laws.proofs.Members.{filter-lt}
 use Rattle.guard.specs.Message.{Message, Message.made, Message.number, toParts}
+use Rattle.guard.specs.Terms.{termCount}
 use Rattle.guard.specs.Types.{Types, defaultOf, fieldsOf, isNumber}
-use Rattle.growth.proofs.ClosedPlans.{circles, closedPlan, closedPlan-ind, distance-far, distance-to-root, index, lap, lap-most, laps-back, laps-positive, rootFor, startOf, steps}
+use Rattle.growth.proofs.ClosedPlans.{circles, closedPlan, closedPlan-ind, closedSteps, distance-far, distance-to-root, lap, lap-most, laps-back, laps-long, lapsOf, rootFor, rootIndex, startOf}
 use Rattle.growth.proofs.Grow.{fill, grow-add}
 use Rattle.growth.proofs.Growth.{TypesAccepted, chosen-less, chosenField, distanceOf, growFrom, growingVariant, next-less, nextType, stepsToNumber, wrapIn}
+use Rattle.growth.proofs.Injective.{Kind, Kind.const, Kind.free, Kind.node}
 use Rattle.growth.proofs.Orbit.{iterate, root-less}
 use Rattle.growth.proofs.Paths.{parts-eq}
 use Rattle.growth.proofs.Plans.{Plan, Plan.around, Plan.atOnce, Plan.into, planned}
@@ -33,21 +35,30 @@ use Rattle.growth.proofs.Plans.{Plan, Plan.around, Plan.atOnce, Plan.in
 abbrev pub PartsIn : List Message → Message → Type 0
 PartsIn rows m = (t v : ℕ) (ms : List Message) → m ≡ made t v (toParts ms) → (p : Message) → List·Memᴰ p ms → List·Memᴰ p rows
 
+number-parts : (rows : List Message) (t : ℕ) (z : ℤ) → PartsIn rows (number t z)
+number-parts rows t z a b ms e p q = let y : _≡_ {A = ℕ} 0 1 = cc in absurd (omega arith)
+
+made-parts : (rows : List Message) (t v : ℕ) (ms : List Message) → ((p : Message) → List·Memᴰ p ms → List·Memᴰ p rows) → PartsIn rows (made t v (toParts ms))
+made-parts rows t v ms h a b ns e p q = let e1 : toParts ms ≡ toParts ns = cc in h p (subst (List·Memᴰ p) (sym (parts-eq ms ns e1)) q)
+
 module _ (ts : Types) (type variantFor : ℕ → ℕ) (count most top : ℕ) where
   abbrev start : ℕ → ℕ
-  start = startOf ts type variantFor count most top
+  start = startOf ts type variantFor
 
   abbrev rootAt : ℕ → ℕ
-  rootAt = rootFor ts type variantFor count most top
+  rootAt = rootFor ts type variantFor
 
   abbrev circling : ℕ → Bool
-  circling = circles ts type variantFor count most top
+  circling = circles ts type variantFor
 
   abbrev indexOf : ℕ → ℕ
-  indexOf = index ts type variantFor count most top
+  indexOf = rootIndex ts type variantFor count
 
-  abbrev lapOf : ℕ → ℕ
-  lapOf = lap ts type variantFor count most top
+  abbrev laps : ℕ → ℕ
+  laps = lapsOf ts type variantFor count most
+
+  abbrev stepsOf : ℕ → ℕ
+  stepsOf = closedSteps ts type variantFor count most
 
   abbrev planOf : ℕ → Plan
   planOf = closedPlan ts type variantFor count most top
@@ -58,15 +69,15 @@ module _ (ts : Types) (type variantFor : ℕ → ℕ) (count most top : ℕ) whe
   chain (suc k) t e = growFrom ts (suc k) t e ∷ chain k (nextType ts t) e
 
   -- how many classes grow round a root's cycle
-  pub sharing : ℕ → ℕ
+  unfoldable pub sharing : ℕ → ℕ
   sharing r = countBy circling rootAt (from count 0) r
 
   abbrev rootChain : ℕ → List Message
-  rootChain r = chain (sharing r * lapOf r) r (defaultOf ts r)
+  rootChain r = chain (sharing r * lap ts most r) r (defaultOf ts r)
 
   -- the message of a class where its growth comes to the root
   abbrev atRoot : ℕ → Message
-  atRoot c = growFrom ts (indexOf c * lapOf (rootAt c)) (rootAt c) (defaultOf ts (rootAt c))
+  atRoot c = growFrom ts (laps c) (rootAt c) (defaultOf ts (rootAt c))
 
   -- the messages on the way of a class by its plan
   abbrev branchBy : ℕ → Plan → List Message
@@ -77,7 +88,7 @@ module _ (ts : Types) (type variantFor : ℕ → ℕ) (count most top : ℕ) whe
   abbrev branch : ℕ → List Message
   branch c = branchBy c (planOf c)
 
-  pub extraRows : List Message
+  unfoldable pub extraRows : List Message
   extraRows = concatMap rootChain (from (length ts) 0) ++ concatMap branch (from count 0)
 
   -- ---- how many they are
@@ -95,7 +106,7 @@ module _ (ts : Types) (type variantFor : ℕ → ℕ) (count most top : ℕ) whe
         closedPlan-ind ts type variantFor count most top (λ p. length (branchBy c p) ≤ length ts) c (λ e. omega arith)
         (λ e h. let m : Message = number (iterate (nextType ts) (stepsToNumber ts (start c)) (start c)) (pos (top + c)) in
         omega (arith, length-append (chain (stepsToNumber ts (start c)) (start c) m) (m ∷ []), chain-length (stepsToNumber ts (start c)) (start c) m))
-        (λ e h l. omega (arith, chain-length (distanceOf ts (start c)) (start c) (atRoot c), distance-far ts type variantFor count most top accepted c (start-less c)))
+        (λ e h l. omega (arith, chain-length (distanceOf ts (start c)) (start c) (atRoot c), distance-far ts type variantFor count most accepted c (start-less c)))
 
     abbrev lapMost : ℕ
     lapMost = most + (length ts - 1) + length ts
@@ -112,8 +123,8 @@ module _ (ts : Types) (type variantFor : ℕ → ℕ) (count most top : ℕ) whe
       where
         each : (r : ℕ) → length (rootChain r) ≤ sharing r * lapMost
         each r =
-            let e : length (rootChain r) ≡ sharing r * lapOf r = chain-length (sharing r * lapOf r) r (defaultOf ts r) in
-            let h : sharing r * lapOf r ≤ sharing r * lapMost = mul-le-mul-left (sharing r) (lap-most ts type variantFor count most top r some-type) in
+            let e : length (rootChain r) ≡ sharing r * lap ts most r = chain-length (sharing r * lap ts most r) r (defaultOf ts r) in
+            let h : sharing r * lap ts most r ≤ sharing r * lapMost = mul-le-mul-left (sharing r) (lap-most ts most r some-type) in
             omega arith
 
     pub extra-length : length extraRows ≤ count * (most + (length ts - 1) + length ts) + count * length ts
@@ -134,7 +145,7 @@ module _ (ts : Types) (type variantFor : ℕ → ℕ) (count most top : ℕ) whe
         (List·Memᴰ·tail (chain-mem a b (nextType ts t) e h))
 
     index-sharing : (c : ℕ) → c < count → circling c ≡ true → indexOf c ≤ sharing (rootAt c)
-    unfolding sharing index
+    unfolding sharing rootIndex
     index-sharing c h p =
         filter-lt (λ x. ltb x c && (circling x && eqb (rootAt x) (rootAt c))) (λ x. circling x && eqb (rootAt x) (rootAt c)) (from count 0)
         (λ x m q. and-right (ltb x c) _ q) c (mem-from count 0 c (omega arith) (omega arith))
@@ -153,12 +164,8 @@ module _ (ts : Types) (type variantFor : ℕ → ℕ) (count most top : ℕ) whe
       fill-parts (f ∷ fs) (suc k) m (more a bs) h p (List·Memᴰ·tail q) = fill-parts fs k m bs h p q
 
       wrap-parts : (t v : ℕ) (m : Message) → List·Memᴰ m rows → PartsIn rows (wrapIn ts t v m)
-      wrap-parts t v m h a b ms e p q =
-          let e1 : toParts (fill (defaultOf ts) (fieldsOf ts t v) (chosenField ts t v) m) ≡ toParts ms = cc in
-          fill-parts (fieldsOf ts t v) (chosenField ts t v) m (accepted .fieldTypes t v) h p (subst (List·Memᴰ p) (sym (parts-eq (fill (defaultOf ts) (fieldsOf ts t v) (chosenField ts t v) m) ms e1)) q)
-
-      number-parts : (t : ℕ) (z : ℤ) → PartsIn rows (number t z)
-      number-parts t z a b ms e p q = let y : _≡_ {A = ℕ} 0 1 = cc in absurd (omega arith)
+      wrap-parts t v m h =
+          made-parts rows t v (fill (defaultOf ts) (fieldsOf ts t v) (chosenField ts t v) m) (fill-parts (fieldsOf ts t v) (chosenField ts t v) m (accepted .fieldTypes t v) h)
 
       -- the first message of a chain, or its end
       chain-first : (k t : ℕ) (e : Message) → ((m : Message) → List·Memᴰ m (chain k t e) → List·Memᴰ m rows) → List·Memᴰ e rows → List·Memᴰ (growFrom ts k t e) rows
@@ -185,12 +192,12 @@ module _ (ts : Types) (type variantFor : ℕ → ℕ) (count most top : ℕ) whe
       atRoot-in : (c : ℕ) → c < count → circling c ≡ true → List·Memᴰ (atRoot c) rows
       atRoot-in c h p =
           let i : indexOf c ≤ sharing (rootAt c) = index-sharing c h p in
-          let s : (sharing (rootAt c) - indexOf c) * lapOf (rootAt c) + indexOf c * lapOf (rootAt c) ≡ sharing (rootAt c) * lapOf (rootAt c) = split (sharing (rootAt c)) (indexOf c) (lapOf (rootAt c)) i in
-          let e : iterate (nextType ts) ((sharing (rootAt c) - indexOf c) * lapOf (rootAt c)) (rootAt c) ≡ rootAt c = laps-back ts type variantFor count most top accepted c (sharing (rootAt c) - indexOf c) (start-less c) in
+          let s : (sharing (rootAt c) - indexOf c) * lap ts most (rootAt c) + laps c ≡ sharing (rootAt c) * lap ts most (rootAt c) = split (sharing (rootAt c)) (indexOf c) (lap ts most (rootAt c)) i in
+          let e : iterate (nextType ts) ((sharing (rootAt c) - indexOf c) * lap ts most (rootAt c)) (rootAt c) ≡ rootAt c = laps-back ts most accepted (start c) (sharing (rootAt c) - indexOf c) (start-less c) in
           rootChain-in (rootAt c) (root-in c) (atRoot c)
           (subst (λ (k : ℕ). List·Memᴰ (atRoot c) (chain k (rootAt c) (defaultOf ts (rootAt c)))) s
-          (subst (λ (x : ℕ). List·Memᴰ (growFrom ts (indexOf c * lapOf (rootAt c)) x (defaultOf ts (rootAt c))) (chain ((sharing (rootAt c) - indexOf c) * lapOf (rootAt c) + indexOf c * lapOf (rootAt c)) (rootAt c) (defaultOf ts (rootAt c)))) e
-          (chain-mem ((sharing (rootAt c) - indexOf c) * lapOf (rootAt c)) (indexOf c * lapOf (rootAt c)) (rootAt c) (defaultOf ts (rootAt c)) (omega (arith, laps-positive ts type variantFor count most top c)))))
+          (subst (λ (x : ℕ). List·Memᴰ (growFrom ts (laps c) x (defaultOf ts (rootAt c))) (chain ((sharing (rootAt c) - indexOf c) * lap ts most (rootAt c) + laps c) (rootAt c) (defaultOf ts (rootAt c)))) e
+          (chain-mem ((sharing (rootAt c) - indexOf c) * lap ts most (rootAt c)) (laps c) (rootAt c) (defaultOf ts (rootAt c)) (omega (arith, laps-long ts type variantFor count most c)))))
         where
           add-mul : (a b l : ℕ) → (a + b) * l ≡ a * l + b * l
           add-mul a b l = omega arith
@@ -198,11 +205,11 @@ module _ (ts : Types) (type variantFor : ℕ → ℕ) (count most top : ℕ) whe
           split : (m i l : ℕ) → i ≤ m → (m - i) * l + i * l ≡ m * l
           split m i l h = let q : (m - i) + i ≡ m = omega arith in sym (add-mul (m - i) i l) ∙ ap (λ (x : ℕ). x * l) q
 
-      steps-split : (c : ℕ) → growFrom ts (steps ts type variantFor count most top c) (start c) (defaultOf ts (rootAt c)) ≡ growFrom ts (distanceOf ts (start c)) (start c) (atRoot c)
-      unfolding steps
+      steps-split : (c : ℕ) → growFrom ts (stepsOf c) (start c) (defaultOf ts (rootAt c)) ≡ growFrom ts (distanceOf ts (start c)) (start c) (atRoot c)
+      unfolding closedSteps
       steps-split c =
-          grow-add (chosenField ts) (fieldsOf ts) (defaultOf ts) (growingVariant ts) (distanceOf ts (start c)) (indexOf c * lapOf (rootAt c)) (start c) (defaultOf ts (rootAt c))
-          ∙ ap (λ (x : ℕ). growFrom ts (distanceOf ts (start c)) (start c) (growFrom ts (indexOf c * lapOf (rootAt c)) x (defaultOf ts (rootAt c)))) (distance-to-root ts type variantFor count most top accepted c (start-less c))
+          grow-add (chosenField ts) (fieldsOf ts) (defaultOf ts) (growingVariant ts) (distanceOf ts (start c)) (laps c) (start c) (defaultOf ts (rootAt c))
+          ∙ ap (λ (x : ℕ). growFrom ts (distanceOf ts (start c)) (start c) (growFrom ts (laps c) x (defaultOf ts (rootAt c)))) (distance-to-root ts type variantFor count most accepted c (start-less c))
 
       -- what a plan says of the messages on its way and of its own
       abbrev Held : ℕ → Plan → Type 0
@@ -212,7 +219,7 @@ module _ (ts : Types) (type variantFor : ℕ → ℕ) (count most top : ℕ) whe
       held c h = closedPlan-ind ts type variantFor count most top (Held c) c number-case into-case around-case
         where
           number-case : isNumber ts (type c) ≡ true → Held c (atOnce (pos (top + c)))
-          number-case e f = (λ m q. absurd (List·Memᴰ·not-nil q), number-parts (type c) (pos (top + c)))
+          number-case e f = (λ m q. absurd (List·Memᴰ·not-nil q), number-parts rows (type c) (pos (top + c)))
 
           into-case : isNumber ts (type c) ≡ false → stepsToNumber ts (start c) < length ts → Held c (into (variantFor c) (stepsToNumber ts (start c)) (pos (top + c)))
           into-case e l f = (λ m q. both m (List·Memᴰ·append-cases (chain (stepsToNumber ts (start c)) (start c) last) q), wrap-parts (type c) (variantFor c) (growFrom ts (stepsToNumber ts (start c)) (start c) last) (chain-first (stepsToNumber ts (start c)) (start c) last above last-in))
@@ -228,13 +235,14 @@ module _ (ts : Types) (type variantFor : ℕ → ℕ) (count most top : ℕ) whe
 
               both : (m : Message) → List·Memᴰ m (chain (stepsToNumber ts (start c)) (start c) last) ⊎ List·Memᴰ m (last ∷ []) → PartsIn rows m
               both m (inl q) = chain-parts (stepsToNumber ts (start c)) (start c) last above last-in m q
-              both m (inr (List·Memᴰ·head q)) = subst (PartsIn rows) (sym q) (number-parts (iterate (nextType ts) (stepsToNumber ts (start c)) (start c)) (pos (top + c)))
+              both m (inr (List·Memᴰ·head q)) = subst (PartsIn rows) (sym q) (number-parts rows (iterate (nextType ts) (stepsToNumber ts (start c)) (start c)) (pos (top + c)))
 
-          around-case : isNumber ts (type c) ≡ false → circling c ≡ true → length ts ≤ stepsToNumber ts (start c) → Held c (around (variantFor c) (steps ts type variantFor count most top c))
-          around-case e p l f =
-              (chain-parts (distanceOf ts (start c)) (start c) (atRoot c) f (atRoot-in c h p),
-              wrap-parts (type c) (variantFor c) (growFrom ts (steps ts type variantFor count most top c) (start c) (defaultOf ts (rootAt c)))
-              (subst (λ (m : Message). List·Memᴰ m rows) (sym (steps-split c)) (chain-first (distanceOf ts (start c)) (start c) (atRoot c) f (atRoot-in c h p))))
+          around-case : isNumber ts (type c) ≡ false → circling c ≡ true → length ts ≤ stepsToNumber ts (start c) → Held c (around (variantFor c) (stepsOf c))
+          around-case e p l f = (
+            chain-parts (distanceOf ts (start c)) (start c) (atRoot c) f (atRoot-in c h p),
+            wrap-parts (type c) (variantFor c) (growFrom ts (stepsOf c) (start c) (defaultOf ts (rootAt c)))
+                (subst (λ (m : Message). List·Memᴰ m rows) (sym (steps-split c)) (chain-first (distanceOf ts (start c)) (start c) (atRoot c) f (atRoot-in c h p))),
+          )
 
       pub extra-parts : (m : Message) → List·Memᴰ m extraRows → PartsIn rows m
       unfolding extraRows
@@ -243,10 +251,63 @@ module _ (ts : Types) (type variantFor : ℕ → ℕ) (count most top : ℕ) whe
           go : List·Memᴰ m (concatMap rootChain (from (length ts) 0)) ⊎ List·Memᴰ m (concatMap branch (from count 0)) → PartsIn rows m
           go (inl j) =
               mem-concatMap-inv rootChain (PartsIn rows) (from (length ts) 0)
-              (λ r k. let h : r < 0 + length ts = from-bounds (length ts) 0 r k .1 in chain-parts (sharing r * lapOf r) r (defaultOf ts r) (rootChain-in r (omega arith)) (defaults-in r (omega arith))) m j
+              (λ r k. let h : r < 0 + length ts = from-bounds (length ts) 0 r k .1 in chain-parts (sharing r * lap ts most r) r (defaultOf ts r) (rootChain-in r (omega arith)) (defaults-in r (omega arith))) m j
           go (inr j) =
               mem-concatMap-inv branch (PartsIn rows) (from count 0)
               (λ c k. let h : c < 0 + count = from-bounds count 0 c k .1 in held c (omega arith) (branch-in c (omega arith)) .0) m j
 
       pub planned-parts : (c : ℕ) → c < count → PartsIn rows (planned ts (type c) (closedPlan ts type variantFor count most top c))
       planned-parts c h = held c h (branch-in c h) .1
+
+  -- ---- the whole list of rows: the messages of the classes, and what they are made of
+  module _ (kind : ℕ → Kind) (val : ℕ → Message) where
+    pub record Valued : Type 0 where
+      pub node-val : (c v : ℕ) (ps : List ℕ) → c < count → kind c ≡ node v ps → val c ≡ made (type c) v (toParts (map val ps))
+      pub node-in : (c v : ℕ) (ps : List ℕ) → c < count → kind c ≡ node v ps → All (λ p. p < count) ps
+      pub const-val : (c : ℕ) (z : ℤ) → c < count → kind c ≡ const z → val c ≡ number (type c) z
+      pub free-val : (c : ℕ) → c < count → kind c ≡ free → val c ≡ planned ts (type c) (closedPlan ts type variantFor count most top c)
+      -- each default is the message of a class
+      pub default-val : (t : ℕ) → t < length ts → (c : ℕ) × (c < count) × (val c ≡ defaultOf ts t)
+
+    unfoldable pub allRows : List Message
+    allRows = map val (from count 0) ++ extraRows
+
+    pub class-in : (c : ℕ) → c < count → List·Memᴰ (val c) allRows
+    unfolding allRows
+    class-in c h = Memᴰ·append-left extraRows (mem-map val (mem-from count 0 c (omega arith) (omega arith)))
+
+    module _ (accepted : TypesAccepted ts) (some-type : 0 < length ts) where
+      pub rows-parts : Valued → (m : Message) → List·Memᴰ m allRows → PartsIn allRows m
+      unfolding allRows
+      rows-parts ok m q = go (List·Memᴰ·append-cases (map val (from count 0)) q)
+        where
+          rows : List Message
+          rows = map val (from count 0) ++ extraRows
+
+          extra-in : (m : Message) → List·Memᴰ m extraRows → List·Memᴰ m rows
+          extra-in m q = Memᴰ·append-right (map val (from count 0)) q
+
+          default-in : (t : ℕ) → t < length ts → List·Memᴰ (defaultOf ts t) rows
+          default-in t h = let (c, l, e) = ok .default-val t h in subst (λ (x : Message). List·Memᴰ x rows) e (class-in c l)
+
+          class-parts : (c : ℕ) → c < count → (k : Kind) → kind c ≡ k → PartsIn rows (val c)
+          class-parts c h free e = subst (PartsIn rows) (sym (ok .free-val c h e)) (planned-parts accepted some-type rows default-in extra-in c h)
+          class-parts c h (const z) e = subst (PartsIn rows) (sym (ok .const-val c z h e)) (number-parts rows (type c) z)
+          class-parts c h (node v ps) e =
+              subst (PartsIn rows) (sym (ok .node-val c v ps h e))
+              (made-parts rows (type c) v (map val ps) (map-inv val (λ p. List·Memᴰ p rows) ps (λ d i. class-in d (all-mem (ok .node-in c v ps h e) d i))))
+
+          go : List·Memᴰ m (map val (from count 0)) ⊎ List·Memᴰ m extraRows → PartsIn rows m
+          go (inl j) = map-inv val (PartsIn rows) (from count 0) (λ c k. class-parts c (omega (arith, from-bounds count 0 c k .1)) (kind c) refl) m j
+          go (inr j) = extra-parts accepted some-type rows default-in extra-in m j
+
+      pub rows-length : length allRows ≤ count + (count * (most + (length ts - 1) + length ts) + count * length ts)
+      unfolding allRows
+      rows-length = omega (arith, length-append (map val (from count 0)) extraRows, map-from-length val count 0, extra-length accepted some-type)
+
+      -- "Within these limits 4,096 rows always suffice": 78 terms, at most 30 built rows and defaults for a rank, 6 types
+      pub rows-suffice : count ≤ termCount → most ≤ 30 → length ts ≤ 6 → length allRows ≤ 4096
+      rows-suffice hc hm ht =
+          let a : count * (most + (length ts - 1) + length ts) ≤ count * 41 = mul-le-mul-left count (omega arith) in
+          let b : count * length ts ≤ count * 6 = mul-le-mul-left count ht in
+          omega (arith, rows-length)

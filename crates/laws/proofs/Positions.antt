@@ -1,5 +1,5 @@
 -- The least number that passes a test, and tests of a list by position. Assumes nothing.
-use mathlib.Core.Path.{_≡_, refl}
+use mathlib.Core.Path.{_≡_, refl, sym, _∙_}
 use mathlib.Core.Bool.{Bool, true, false, _&&_, _||_, cond, false≢true}
 use mathlib.Core.List.{List, [], _∷_}
 use Prim.Native.Nat.{ℕ, zero, suc, _≤_, _<_}
@@ -46,20 +46,29 @@ least-le p (suc n) k e = go (least-le (λ k. p (suc k)) n) (p 0) refl k e
   where
     go : ((k : ℕ) → p (suc k) ≡ true → least (λ k. p (suc k)) n ≤ k) → (b : Bool) → p 0 ≡ b → (k : ℕ) → p k ≡ true → cond b 0 (suc (least (λ k. p (suc k)) n)) ≤ k
     go ih true q k r = omega arith
-    go ih false q zero r = let z : true ≡ false = cc in let y : _≡_ {A = ℕ} 0 1 = cc in absurd (omega arith)
+    go ih false q zero r = absurd (false≢true (sym q ∙ r))
     go ih false q (suc k) r = omega (arith, ih k r)
 
 -- ---- tests of lists by position
 
 module _ {A : Type 0} (p : A → Bool) where
-  pub all-true-at : (xs : List A) (k : ℕ) (d : A) → all p xs ≡ true → p d ≡ true → p (getD xs k d) ≡ true
-  all-true-at [] k d e h = h
+  pub all-true-at : (xs : List A) (k : ℕ) (d : A) → all p xs ≡ true → k < length xs → p (getD xs k d) ≡ true
+  all-true-at [] k d e h = absurd (omega arith)
   all-true-at (x ∷ xs) zero d e h = and-left (p x) (all p xs) e
-  all-true-at (x ∷ xs) (suc k) d e h = all-true-at xs k d (and-right (p x) (all p xs) e) h
+  all-true-at (x ∷ xs) (suc k) d e h = all-true-at xs k d (and-right (p x) (all p xs) e) (omega arith)
 
   pub all-true-from : (xs : List A) (d : A) → ((k : ℕ) → k < length xs → p (getD xs k d) ≡ true) → all p xs ≡ true
   all-true-from [] d h = refl
   all-true-from (x ∷ xs) d h = and-both (p x) (all p xs) (h 0 (omega arith)) (all-true-from xs d (λ k l. h (suc k) (omega arith)))
+
+  pub all-false-at : (xs : List A) (d : A) → all p xs ≡ false → (k : ℕ) × (k < length xs) × (p (getD xs k d) ≡ false)
+  all-false-at [] d e = absurd (false≢true (sym e))
+  all-false-at (x ∷ xs) d e = go (all-false-at xs d) (p x) refl e
+    where
+      go : (all p xs ≡ false → (k : ℕ) × (k < length xs) × (p (getD xs k d) ≡ false)) → (b : Bool) → p x ≡ b → (b && all p xs) ≡ false
+          → (k : ℕ) × (k < length (x ∷ xs)) × (p (getD (x ∷ xs) k d) ≡ false)
+      go ih true q r = let (k, l, h) = ih r in (suc k, omega arith, h)
+      go ih false q r = (0, omega arith, q)
 
   pub any-true-at : (xs : List A) (d : A) → any p xs ≡ true → (k : ℕ) × (k < length xs) × (p (getD xs k d) ≡ true)
   any-true-at [] d e = absurd (false≢true e)
