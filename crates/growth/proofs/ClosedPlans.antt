@@ -25,7 +25,7 @@ use Rattle.guard.specs.Types.{Types, fieldsOf, isNumber}
 use Rattle.growth.proofs.Growth.{TypesAccepted, chosen-infinite, chosenType, distanceOf, next-less, nextType, periodOf, rootOf, stepsToNumber}
 use Rattle.growth.proofs.Injective.{Kind, Kind.const, Kind.free, Kind.node}
 use Rattle.growth.proofs.Orbit.{distance-less, distance-root, iterate, iterate-add, iterate-rounds, period-most, period-positive, period-root}
-use Rattle.growth.proofs.Plans.{Plan, Plan.around, Plan.atOnce, Plan.into, PlanFits, Planned, endNumber, planned, rootBy}
+use Rattle.growth.proofs.Plans.{Plan, Plan.around, Plan.atOnce, Plan.into, PlanFits, Planned, endNumber, plannedMessage, rootBy}
 
 -- i laps and j laps with less than a lap's difference: i is j
 same-lap : (i j lap k x y most far : ℕ) → x + i * lap ≡ k + (y + j * lap) → k ≤ most → x ≤ far → y ≤ far → most + far < lap → i ≡ j
@@ -84,7 +84,7 @@ module _ (ts : Types) (type variantFor : ℕ → ℕ) where
     unfoldable pub rootIndex : ℕ → ℕ
     rootIndex c = suc (length (filter (λ x. ltb x c && (circles x && eqb (rootFor x) (rootFor c))) (from count 0)))
 
-    pub index-positive : (c : ℕ) → 0 < rootIndex c
+    index-positive : (c : ℕ) → 0 < rootIndex c
     unfolding rootIndex
     index-positive c = positive (length (filter (λ x. ltb x c && (circles x && eqb (rootFor x) (rootFor c))) (from count 0)))
       where
@@ -166,8 +166,8 @@ module _ (ts : Types) (type variantFor : ℕ → ℕ) where
             (λ q. h e (and-both (not (isNumber ts (type c))) (not (ltb (stepsToNumber ts (startOf c)) (length ts))) (ap not e) (ap not q)) (ltb-false _ _ q)))
 
         -- a message of a variant type has the variant given
-        pub closed-variant : (c : ℕ) → isNumber ts (type c) ≡ false → IsVariant (planned ts (type c) (closedPlan c)) (variantFor c)
-        closed-variant c e = closedPlan-ind (λ p. IsVariant (planned ts (type c) p) (variantFor c)) c (λ n. absurd (false≢true (sym e ∙ n))) (λ n h. refl) (λ n h l. refl)
+        pub closed-variant : (c : ℕ) → isNumber ts (type c) ≡ false → IsVariant (plannedMessage ts (type c) (closedPlan c)) (variantFor c)
+        closed-variant c e = closedPlan-ind (λ p. IsVariant (plannedMessage ts (type c) p) (variantFor c)) c (λ n. absurd (false≢true (sym e ∙ n))) (λ n h. refl) (λ n h l. refl)
 
         closed-end : (c : ℕ) (z : ℤ) → endNumber (closedPlan c) ≡ some z → z ≡ pos (top + c)
         closed-end c z = closedPlan-ind (λ p. endNumber p ≡ some z → z ≡ pos (top + c)) c (λ n e. (cc)) (λ n h e. (cc)) (λ n h l e. absurd (none-some z e))
@@ -202,7 +202,7 @@ module _ (ts : Types) (type variantFor : ℕ → ℕ) where
             pub below : (c k : ℕ) → In c → kind c ≡ const (pos k) → k < top
             pub positive : 0 < top
             -- messages
-            pub free-val : (c : ℕ) → In c → kind c ≡ free → val c ≡ planned ts (type c) (closedPlan c)
+            pub free-val : (c : ℕ) → In c → kind c ≡ free → val c ≡ plannedMessage ts (type c) (closedPlan c)
             pub node-val : (c v : ℕ) → In c → kind c ≡ node v [] → val c ≡ made (type c) v nil
             pub const-val : (c : ℕ) (z : ℤ) → In c → kind c ≡ const z → val c ≡ number (type c) z
 

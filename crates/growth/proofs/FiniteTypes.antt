@@ -14,7 +14,8 @@ use borrow.Author.Tests.{eqb-true, eqb-false, ltb-true, ltb-false, not-true, not
 use mathlib.Core.List.{[], _∷_, List·Memᴰ, List}
 use Rattle.laws.specs.Lists.{all, filter, from}
 use Rattle.laws.proofs.Bools.{and-both, and-left, and-right}
-use Rattle.laws.proofs.Lists.{from-length, mem-from}
+use Rattle.laws.proofs.Counts.{from-length}
+use Rattle.laws.proofs.Lists.{mem-from}
 use Rattle.laws.proofs.Members.{filter-lt, filter-most, find-cases}
 use Rattle.laws.proofs.Positions.{all-false-at, all-true-at, all-true-from, all-true-weaken, any-true-at}
 use Rattle.guard.specs.Types.{Types, Variant, fieldType, fieldsOf, finite, finiteType, infiniteField, infiniteFields, isNumber, variantsOf}

@@ -46,9 +46,11 @@ module _ (ts : Types) where
   abbrev pub growingVariant : ℕ → ℕ
   growingVariant t = least (λ v. ltb 0 (length (fieldsOf ts t v))) (length (variantsOf ts t))
 
+  -- the type of a variant's chosen field
   abbrev pub chosenType : ℕ → ℕ → ℕ
   chosenType = chosen chosenField (fieldsOf ts) (defaultOf ts) growingVariant
 
+  -- the type that growth goes on to
   abbrev pub nextType : ℕ → ℕ
   nextType = onward chosenField (fieldsOf ts) (defaultOf ts) growingVariant
 
@@ -60,6 +62,7 @@ module _ (ts : Types) where
   abbrev pub growFrom : ℕ → ℕ → Message → Message
   growFrom = grow chosenField (fieldsOf ts) (defaultOf ts) growingVariant
 
+  -- each of n steps of growth from a type is by a variant with fields
   abbrev pub GrowsBy : ℕ → ℕ → Type 0
   GrowsBy = Growing chosenField (fieldsOf ts) (defaultOf ts) growingVariant
 
@@ -77,6 +80,7 @@ module _ (ts : Types) where
   abbrev pub stepsToNumber : ℕ → ℕ
   stepsToNumber t = least (λ k. isNumber ts (iterate nextType k t)) (length ts)
 
+  -- an infinite type of the list
   abbrev pub Infinite : ℕ → Type 0
   Infinite t = (t < length ts) × (infinite ts t ≡ true)
 
@@ -97,7 +101,7 @@ module _ (ts : Types) where
     pub chosen-infinite : (t v : ℕ) → 0 < length (fieldsOf ts t v) → Infinite (chosenType t v)
     chosen-infinite t v h = let (l, e) = chosen-found t v h in (all-getD (accepted .fieldTypes t v) (chosenField t v) 0 l, e)
 
-    -- types of fields are in range, and 0 is where there is a type at all
+    -- the chosen type is in range; where the variant has no fields it is type 0
     pub chosen-less : 0 < length ts → (t v : ℕ) → chosenType t v < length ts
     chosen-less h t v = go (ltb (chosenField t v) (length (fieldsOf ts t v))) refl
       where

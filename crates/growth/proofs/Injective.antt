@@ -79,11 +79,7 @@ module _ (at : ℕ → ℕ → ℕ) (fields : ℕ → ℕ → List ℕ) (In : �
             let s : next at (val c) ≡ val q = step fits in
             let smaller : messageSize (val q) < messageSize (val c) = shrinks fits in
             record {
-              class = b .class;
-              steps = suc (b .steps);
-              isIn = b .isIn;
-              leaf = b .leaf;
-              short = omega (arith, b .short);
+              class = b .class; steps = suc (b .steps); isIn = b .isIn; leaf = b .leaf; short = omega (arith, b .short);
               there = b .there ∙ ap (down at (b .steps)) (sym s);
               less = inr (under (b .less) smaller);
             }

@@ -47,10 +47,10 @@ module _ (ts : Types) where
   rootBy t v = rootOf ts (chosenType ts t v)
 
   -- the message of a plan at a type
-  abbrev pub planned : ℕ → Plan → Message
-  planned t (atOnce z) = number t z
-  planned t (into v d z) = wrapIn ts t v (growFrom ts d (chosenType ts t v) (number (iterate (nextType ts) d (chosenType ts t v)) z))
-  planned t (around v n) = wrapIn ts t v (growFrom ts n (chosenType ts t v) (defaultOf ts (rootBy t v)))
+  abbrev pub plannedMessage : ℕ → Plan → Message
+  plannedMessage t (atOnce z) = number t z
+  plannedMessage t (into v d z) = wrapIn ts t v (growFrom ts d (chosenType ts t v) (number (iterate (nextType ts) d (chosenType ts t v)) z))
+  plannedMessage t (around v n) = wrapIn ts t v (growFrom ts n (chosenType ts t v) (defaultOf ts (rootBy t v)))
 
   -- the plan is one for the type
   abbrev pub PlanFits : ℕ → Plan → Type 0
@@ -72,7 +72,7 @@ module _ (ts : Types) where
     into-growth : (t v d : ℕ) (z : ℤ) → PlanFits t (into v d z) → GrowsBy ts d (chosenType ts t v)
     into-growth t v d z f = growth-before ts accepted d (chosenType ts t v) (chosen-infinite ts accepted t v (f .0)) (f .1)
 
-    pub planned-belongs : (t : ℕ) (p : Plan) → PlanFits t p → Belongs ts (planned t p) t
+    pub planned-belongs : (t : ℕ) (p : Plan) → PlanFits t p → Belongs ts (plannedMessage t p) t
     planned-belongs t (atOnce z) f = (refl, f)
     planned-belongs t (into v d z) f =
         wrap-belongs ts accepted t v (growFrom ts d (chosenType ts t v) (number (iterate (nextType ts) d (chosenType ts t v)) z)) (f .0)
@@ -85,12 +85,12 @@ module _ (ts : Types) where
         (defaultOf-belongs ts accepted (rootBy t v) (root-less (nextType ts) (length ts) (next-less ts accepted) (chosenType ts t v) (cyclic-less ts accepted (chosenType ts t v) c)))))
 
     -- a message of a variant type has the plan's variant
-    pub planned-variant : (t : ℕ) (p : Plan) → PlanFits t p → isNumber ts t ≡ false → (v : ℕ) × (planVariant p ≡ some v) × IsVariant (planned t p) v
+    pub planned-variant : (t : ℕ) (p : Plan) → PlanFits t p → isNumber ts t ≡ false → (v : ℕ) × (planVariant p ≡ some v) × IsVariant (plannedMessage t p) v
     planned-variant t (atOnce z) f e = absurd (false≢true (sym e ∙ f))
     planned-variant t (into v d z) f e = (v, refl, refl)
     planned-variant t (around v n) f e = (v, refl, refl)
 
-    planned-end : (t : ℕ) (p : Plan) (u : ℕ) (z : ℤ) → PlanFits t p → howPlanned t p ≡ ending u z → (end (chosenField ts) (planned t p) ≡ number u z) × (endNumber p ≡ some z)
+    planned-end : (t : ℕ) (p : Plan) (u : ℕ) (z : ℤ) → PlanFits t p → howPlanned t p ≡ ending u z → (end (chosenField ts) (plannedMessage t p) ≡ number u z) × (endNumber p ≡ some z)
     planned-end t (atOnce y) u z f e = (cc, cc)
     planned-end t (into v d y) u z f e =
         let a : number (iterate (nextType ts) d (chosenType ts t v)) y ≡ number u z = cc in (
@@ -110,7 +110,7 @@ module _ (ts : Types) where
     pub record Planned : Type 0 where
       pub fits : (c : ℕ) → In c → kind c ≡ free → PlanFits (type c) (plan c)
       -- messages
-      pub free-val : (c : ℕ) → In c → kind c ≡ free → val c ≡ planned (type c) (plan c)
+      pub free-val : (c : ℕ) → In c → kind c ≡ free → val c ≡ plannedMessage (type c) (plan c)
       pub node-val : (c v : ℕ) → In c → kind c ≡ node v [] → val c ≡ made (type c) v nil
       pub const-val : (c : ℕ) (z : ℤ) → In c → kind c ≡ const z → val c ≡ number (type c) z
       -- numbers at ends
@@ -136,10 +136,10 @@ module _ (ts : Types) where
           (ap (end (chosenField ts)) (pl .free-val c i f) ∙ a, b)
 
       turned : (c v n : ℕ) → In c → kind c ≡ free → plan c ≡ around v n
-          → (0 < length (fieldsOf ts (type c) v)) × Cyclic ts (chosenType ts (type c) v) × (val c ≡ planned (type c) (around v n))
+          → (0 < length (fieldsOf ts (type c) v)) × Cyclic ts (chosenType ts (type c) v) × (val c ≡ plannedMessage (type c) (around v n))
       turned c v n i f e =
           let h : PlanFits (type c) (around v n) = subst (PlanFits (type c)) e (pl .fits c i f) in
-          (h .0, around-cyclic accepted (type c) v n h, pl .free-val c i f ∙ ap (planned (type c)) e)
+          (h .0, around-cyclic accepted (type c) v n h, pl .free-val c i f ∙ ap (plannedMessage (type c)) e)
 
       pub planned-grown : Grown (chosenField ts) (fieldsOf ts) (defaultOf ts) (growingVariant ts) In type kind val most (Cyclic ts) (rootOf ts) (defaultOf ts) (λ c. howPlanned (type c) (plan c))
       planned-grown =

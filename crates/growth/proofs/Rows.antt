@@ -17,8 +17,8 @@ use native.Mathlib.Nat.{mul-le-mul-right, mul-le-mul-left}
 use Rattle.laws.specs.All.{All, All.more}
 use Rattle.laws.specs.Lists.{concatMap, from, sum}
 use Rattle.laws.proofs.Bools.{and-both, and-right}
-use Rattle.laws.proofs.Counts.{concatMap-length, count-by-key, countBy, sum-map-most, sum-map-times}
-use Rattle.laws.proofs.Lists.{all-mem, from-bounds, from-length, map-from-length, map-inv, mem-concatMap, mem-concatMap-inv, mem-from, mem-map, sum-map-le}
+use Rattle.laws.proofs.Counts.{concatMap-length, count-by-key, countBy, from-length, sum-map-most, sum-map-times}
+use Rattle.laws.proofs.Lists.{all-mem, from-bounds, map-from-length, map-inv, mem-concatMap, mem-concatMap-inv, mem-from, mem-map, sum-map-le}
 use Rattle.laws.proofs.Members.{filter-lt}
 use Rattle.guard.specs.Message.{Message, Message.made, Message.number, toParts}
 use Rattle.guard.specs.Terms.{termCount}
@@ -29,7 +29,7 @@ use Rattle.growth.proofs.Growth.{TypesAccepted, chosen-less, chosenFiel
 use Rattle.growth.proofs.Injective.{Kind, Kind.const, Kind.free, Kind.node}
 use Rattle.growth.proofs.Orbit.{iterate, root-less}
 use Rattle.growth.proofs.Paths.{parts-eq}
-use Rattle.growth.proofs.Plans.{Plan, Plan.around, Plan.atOnce, Plan.into, planned}
+use Rattle.growth.proofs.Plans.{Plan, Plan.around, Plan.atOnce, Plan.into, plannedMessage}
 
 -- the parts of a message are in a list
 abbrev pub PartsIn : List Message → Message → Type 0
@@ -213,7 +213,7 @@ module _ (ts : Types) (type variantFor : ℕ → ℕ) (count most top : ℕ) whe
 
       -- what a plan says of the messages on its way and of its own
       abbrev Held : ℕ → Plan → Type 0
-      Held c p = ((m : Message) → List·Memᴰ m (branchBy c p) → List·Memᴰ m rows) → ((m : Message) → List·Memᴰ m (branchBy c p) → PartsIn rows m) × PartsIn rows (planned ts (type c) p)
+      Held c p = ((m : Message) → List·Memᴰ m (branchBy c p) → List·Memᴰ m rows) → ((m : Message) → List·Memᴰ m (branchBy c p) → PartsIn rows m) × PartsIn rows (plannedMessage ts (type c) p)
 
       held : (c : ℕ) → c < count → Held c (planOf c)
       held c h = closedPlan-ind ts type variantFor count most top (Held c) c number-case into-case around-case
@@ -256,7 +256,7 @@ module _ (ts : Types) (type variantFor : ℕ → ℕ) (count most top : ℕ) whe
               mem-concatMap-inv branch (PartsIn rows) (from count 0)
               (λ c k. let h : c < 0 + count = from-bounds count 0 c k .1 in held c (omega arith) (branch-in c (omega arith)) .0) m j
 
-      pub planned-parts : (c : ℕ) → c < count → PartsIn rows (planned ts (type c) (closedPlan ts type variantFor count most top c))
+      pub planned-parts : (c : ℕ) → c < count → PartsIn rows (plannedMessage ts (type c) (closedPlan ts type variantFor count most top c))
       planned-parts c h = held c h (branch-in c h) .1
 
   -- ---- the whole list of rows: the messages of the classes, and what they are made of
@@ -265,7 +265,7 @@ module _ (ts : Types) (type variantFor : ℕ → ℕ) (count most top : ℕ) whe
       pub node-val : (c v : ℕ) (ps : List ℕ) → c < count → kind c ≡ node v ps → val c ≡ made (type c) v (toParts (map val ps))
       pub node-in : (c v : ℕ) (ps : List ℕ) → c < count → kind c ≡ node v ps → All (λ p. p < count) ps
       pub const-val : (c : ℕ) (z : ℤ) → c < count → kind c ≡ const z → val c ≡ number (type c) z
-      pub free-val : (c : ℕ) → c < count → kind c ≡ free → val c ≡ planned ts (type c) (closedPlan ts type variantFor count most top c)
+      pub free-val : (c : ℕ) → c < count → kind c ≡ free → val c ≡ plannedMessage ts (type c) (closedPlan ts type variantFor count most top c)
       -- each default is the message of a class
       pub default-val : (t : ℕ) → t < length ts → (c : ℕ) × (c < count) × (val c ≡ defaultOf ts t)
 

@@ -250,24 +250,22 @@ reads-file limits sup =
     (λ l b5 hl. reads-bind (times l (literal ts rs)) _ (λ ls u. (length ls ≡ l) × All (LiteralFits ts rs) ls × (u ≤ l * 3)) (Good (λ z. b1 + (b2 + (b3 + (b4 + (b5 + z))))))
     (reads-times l 3 (literal ts rs) (LiteralFits ts rs) (reads-literal ts rs (omega (arith, hr .0, hn .0, sup .terms)) few (λ t. tf t .0) (λ t v. vf t v .0)))
     (λ ls b6 hls. reads-bind ended _ (λ x u. u ≡ 0) (Good (λ z. b1 + (b2 + (b3 + (b4 + (b5 + (b6 + z))))))) reads-ended
-    (λ x b7 h7. reads-return (record { types = ts; rows = rs; literals = ls }) (Good (λ z. b1 + (b2 + (b3 + (b4 + (b5 + (b6 + (b7 + z)))))))) (
-      record {
-        typeCount = omega (arith, ht .0, hm .0);
-        variantCounts = λ t. tf t .0;
-        fieldCounts = λ t v. vf t v .0;
-        fieldTypes = λ t v. subst (λ (k : ℕ). All (λ f. f < k) (fieldsOf ts t v)) (sym (ht .0)) (vf t v .1);
-        ready = λ t h. all-some (defaults ts) t e8 (omega (arith, defaults-length (length ts) ts));
-        infinite = e9;
-        termCount = omega (arith, hr .0, hn .0);
-        rows = hr .1;
-        lineCount = omega (arith, hls .0, hl .0);
-        literals = λ l m. all-mem (hls .1) l m;
-      },
-      omega (arith, hm .0, hm .1, ht .2, hn .0, hn .1, hr .2, hl .0, hl .1, hls .2, h7),
-    ))))))))))
+    (λ x b7 h7. reads-return (record { types = ts; rows = rs; literals = ls }) (Good (λ z. b1 + (b2 + (b3 + (b4 + (b5 + (b6 + (b7 + z))))))))
+    (record {
+      typeCount = omega (arith, ht .0, hm .0);
+      variantCounts = λ t. tf t .0;
+      fieldCounts = λ t v. vf t v .0;
+      fieldTypes = λ t v. subst (λ (k : ℕ). All (λ f. f < k) (fieldsOf ts t v)) (sym (ht .0)) (vf t v .1);
+      ready = λ t h. all-some (defaults ts) t e8 (omega (arith, defaults-length (length ts) ts));
+      infinite = e9;
+      termCount = omega (arith, hr .0, hn .0);
+      rows = hr .1;
+      lineCount = omega (arith, hls .0, hl .0);
+      literals = λ l m. all-mem (hls .1) l m }, omega (arith, hm .0, hm .1, ht .2, hn .0, hn .1, hr .2, hl .0, hl .1, hls .2, h7)))))))))))
   where
     Good : (ℕ → ℕ) → Guard → ℕ → Type 0
     Good bytes g z = WellFormed limits g × (bytes z ≤ longestFile limits)
+
 
 -- an accepted file holds a well-formed guard
 pub accepted-well-formed : (limits : Limits) → Supported limits → (bytes : List ℕ) (g : Guard) (rest : List ℕ) → file limits bytes ≡ accepted g rest → WellFormed limits g

@@ -28,10 +28,9 @@ module _ (budget : ℕ) (w : Visits) where
   verdict-not-spent (closed n) b e = let z : _≡_ {A = ℕ} 0 1 = cc in omega arith
 
   pub spent-exactly : ((b : ℕ) × (withBudget budget w ≡ spent b)) ↔ (budget < visits w)
-  spent-exactly = (
-    λ p. by-test (leb (visits w) budget) (λ e. absurd (verdict-not-spent w (p .0) (sym (enough budget w (leb-true (visits w) budget e)) ∙ p .1))) (λ e. leb-false (visits w) budget e),
-    λ h. (budget, too-few budget w h),
-  )
+  spent-exactly =
+      (λ p. by-test (leb (visits w) budget) (λ e. absurd (verdict-not-spent w (p .0) (sym (enough budget w (leb-true (visits w) budget e)) ∙ p .1))) (λ e. leb-false (visits w) budget e),
+      λ h. (budget, too-few budget w h))
 
 -- every larger budget brings the same verdict and count
 pub larger-budget : (budget larger : ℕ) (w : Visits) → visits w ≤ budget → budget ≤ larger → withBudget larger w ≡ withBudget budget w

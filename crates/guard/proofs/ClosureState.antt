@@ -195,3 +195,4 @@ closure-masks t ls =
 pub closure-small : (t : Table) (ls : List Literal) (i : ℕ) → labelOf (closureOf t ls) i < 2 ^ 16
 unfolding Small
 closure-small t ls i = closure-masks t ls (classOf (closureOf t ls) i)
+

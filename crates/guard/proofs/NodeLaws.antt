@@ -79,14 +79,9 @@ module _ (t : Table) (range : InRange t) where
           let less : u < w = filter-from-ordered (λ v. not (lacks (S ls) (x .term) v)) many 0 u w us q in
           let lowest : u ≡ getD (variantsLeft t (S ls) x) 0 0 = ap (λ (l : List ℕ). getD l 0 0) (sym q) in
           subst (λ (v : ℕ). SplitsAt t (S ls) (record { term = x .term; variant = v })) lowest
-          (record {
-            type = x .type;
-            term = m;
-            variant = hu;
-            another = and-both (not (lacks (S ls) (x .term) u)) _ lu
-                (ap not (ne-eqb (labelOf (S ls) (x .term)) (2 ^ u) (λ z. eqb-false (bit (labelOf (S ls) (x .term)) w) 0 (not-true _ lw)
-                (ap (λ (l : ℕ). bit l w) z ∙ bit-pow u w hu hw (λ e. omega (arith, e))))));
-          })
+          (record { type = x .type; term = m; variant = hu; another = and-both (not (lacks (S ls) (x .term) u)) _ lu
+              (ap not (ne-eqb (labelOf (S ls) (x .term)) (2 ^ u) (λ z. eqb-false (bit (labelOf (S ls) (x .term)) w) 0 (not-true _ lw)
+              (ap (λ (l : ℕ). bit l w) z ∙ bit-pow u w hu hw (λ e. omega (arith, e)))))) })
 
   pub split-is : (ls : List Literal) (d : Split) → splitOf t (S ls) ≡ some d → SplitsAt t (S ls) d
   unfolding splitOf

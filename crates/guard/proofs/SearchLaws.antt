@@ -30,10 +30,9 @@ module _ (t : Table) (range : InRange t) where
   one-deeper zero ls r h = absurd (omega arith)
   one-deeper (suc k) ls r h =
       node-same (isClosed t ls (closureOf t ls)) (splitOf t (closureOf t ls)) (λ d. searchTo k t (d ∷ ls)) (λ d. searchTo (suc k) t (d ∷ ls))
-      (λ d e. let sp = split-is t range ls d e in (
-        one-deeper k (is (d .term) (d .variant) ∷ ls) (is-in-range t range ls r d sp) (omega (arith, is-falls t range ls r d sp)),
-        one-deeper k (isnt (d .term) (d .variant) ∷ ls) (isnt-in-range t range ls r d sp) (omega (arith, isnt-falls t range ls r d sp)),
-      ))
+      (λ d e. let sp = split-is t range ls d e in
+      (one-deeper k (is (d .term) (d .variant) ∷ ls) (is-in-range t range ls r d sp) (omega (arith, is-falls t range ls r d sp)),
+      one-deeper k (isnt (d .term) (d .variant) ∷ ls) (isnt-in-range t range ls r d sp) (omega (arith, isnt-falls t range ls r d sp))))
 
   much-deeper : (j k : ℕ) (ls : List Literal) → LiteralsInRange ls → labelTotal t (closureOf t ls) < k → searchTo k t ls ≡ searchTo (j + k) t ls
   much-deeper zero k ls r h = ap (λ (n : ℕ). searchTo n t ls) (sym (zero-add k))
@@ -54,10 +53,9 @@ module _ (t : Table) (range : InRange t) where
   unfolding search searchTo
   search-step ls r =
       node-same (isClosed t ls (closureOf t ls)) (splitOf t (closureOf t ls)) (λ d. searchTo (labelTotal t (closureOf t ls)) t (d ∷ ls)) (λ d. search t (d ∷ ls))
-      (λ d e. let sp = split-is t range ls d e in (
-        depth-suffices (labelTotal t (closureOf t ls)) (is (d .term) (d .variant) ∷ ls) (is-in-range t range ls r d sp) (is-falls t range ls r d sp),
-        depth-suffices (labelTotal t (closureOf t ls)) (isnt (d .term) (d .variant) ∷ ls) (isnt-in-range t range ls r d sp) (isnt-falls t range ls r d sp),
-      ))
+      (λ d e. let sp = split-is t range ls d e in
+      (depth-suffices (labelTotal t (closureOf t ls)) (is (d .term) (d .variant) ∷ ls) (is-in-range t range ls r d sp) (is-falls t range ls r d sp),
+      depth-suffices (labelTotal t (closureOf t ls)) (isnt (d .term) (d .variant) ∷ ls) (isnt-in-range t range ls r d sp) (isnt-falls t range ls r d sp)))
 
 -- ---- counts
 

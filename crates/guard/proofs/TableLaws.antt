@@ -248,13 +248,9 @@ module _ (limits : Limits) (sup : Supported limits) (g : Guard) (ok : WellFormed
             (λ t u v ms h e. (omega (arith, few-types), omega (arith, default-belongs (g .types) t (made u v ms) e .1, ok .variantCounts t), defaults-small (fieldsOf (g .types) t v) (ok .fieldTypes t v)));
         reads =
             read-inv g (λ r. (r .row < termCount) × (r .term < termCount) × (r .variant < variantLimit) × (r .absent < termCount) × All (λ p. p < termCount) (r .fields))
-            (λ i t a v p h e. let f : RowFits (g .types) (g .rows) i (field t a v p) = row-fit i (field t a v p) h e in (
-              omega (arith, few-rows),
-              omega (arith, f .0, few-rows),
-              omega (arith, f .2, ok .variantCounts t),
-              omega (arith, all-getD (ok .fieldTypes t v) p 0 (f .3), few-types),
-              read-fields-small i t a v p h e,
-            ));
+            (λ i t a v p h e. let f : RowFits (g .types) (g .rows) i (field t a v p) = row-fit i (field t a v p) h e in
+            (omega (arith, few-rows), omega (arith, f .0, few-rows), omega (arith, f .2, ok .variantCounts t),
+            omega (arith, all-getD (ok .fieldTypes t v) p 0 (f .3), few-types), read-fields-small i t a v p h e));
         consts = const-inv g (λ c. c .term < termCount) (λ i t z h e. omega (arith, few-rows)) (λ t u z h e. omega (arith, few-types));
         fieldlesses = λ x v m k. let (j, e, h, q) = fieldless-is 0 v (variantsOf (g .types) (x .type)) k in omega (arith, e, h, ok .variantCounts (x .type));
         buildTerms =

@@ -1,5 +1,5 @@
--- Sums and lengths of lists that come in groups. Assumes nothing.
-use mathlib.Core.Path.{_≡_, refl}
+-- Lengths of ranges, and sums and lengths of lists that come in groups. Assumes nothing.
+use mathlib.Core.Path.{_≡_, refl, ap}
 use mathlib.Core.Bool.{Bool, true, false, _&&_, false≢true}
 use mathlib.Core.List.{List, [], _∷_, map, List·Memᴰ, List·Memᴰ·head, List·Memᴰ·tail}
 use Prim.Native.Nat.{ℕ, zero, suc, _+_, _*_, _≤_, _<_}
@@ -8,6 +8,10 @@ use lib.Dec.{eqb}
 use lib.ListN.{length, length-append}
 use borrow.Author.Tests.{eqb-true, ne-eqb}
 use Rattle.laws.specs.Lists.{consIf, filter, concatMap, from, sum}
+
+pub from-length : (n a : ℕ) → length (from n a) ≡ n
+from-length zero a = refl
+from-length (suc n) a = ap suc (from-length n (suc a))
 
 module _ {A B : Type 0} (f : A → List B) where
   pub concatMap-length : (xs : List A) → length (concatMap f xs) ≡ sum (map (λ x. length (f x)) xs)

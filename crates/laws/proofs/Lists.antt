@@ -182,10 +182,6 @@ from-at zero a k d h = absurd (omega arith)
 from-at (suc n) a zero d h = omega arith
 from-at (suc n) a (suc k) d h = from-at n (suc a) k d (omega arith) ∙ omega arith
 
-pub from-length : (n a : ℕ) → length (from n a) ≡ n
-from-length zero a = refl
-from-length (suc n) a = ap suc (from-length n (suc a))
-
 pub mem-from : (n a k : ℕ) → a ≤ k → k < a + n → List·Memᴰ k (from n a)
 mem-from zero a k h l = absurd (omega arith)
 mem-from (suc n) a k h l = go (mem-from n (suc a) k) (eqb k a) refl
