@@ -179,7 +179,8 @@ module _ (at : ℕ → ℕ → ℕ) (fields : ℕ → ℕ → List ℕ) (def : �
       turn-end : (u v n : ℕ) → In u → kind u ≡ free → how u ≡ turning v n → end at (val u) ≡ end at (base (root (chosen (type u) v)))
       turn-end u v n i f h =
           let (p, c, e) = g .turns u v n i f h in
-          ap (end at) e ∙ end-wrap (g .inside) (type u) v (grow n (chosen (type u) v) (base (root (chosen (type u) v)))) p ∙ end-grow (g .inside) n (chosen (type u) v) (base (root (chosen (type u) v))) (growing n (chosen (type u) v) c)
+          ap (end at) e ∙ end-wrap (g .inside) (type u) v (grow n (chosen (type u) v) (base (root (chosen (type u) v)))) p
+          ∙ end-grow (g .inside) n (chosen (type u) v) (base (root (chosen (type u) v))) (growing n (chosen (type u) v) c)
 
       -- a message with parts is not one without
       turn-bare : (u w v n k : ℕ) → In u → kind u ≡ free → how u ≡ turning v n → k ≤ most → Bare (val w) → down at k (val u) ≡ val w → ⊥
@@ -200,7 +201,8 @@ module _ (at : ℕ → ℕ → ℕ) (fields : ℕ → ℕ → List ℕ) (def : �
           let e1 : grow (n - k) (iterate onward k (chosen (type u) v)) (base (root (chosen (type u) v))) ≡ grow m (chosen (type w) x) (base (root (chosen (type w) x))) =
           sym (after u v (n - k) k i f (h ∙ ap (turning v) (sym s))) ∙ ap (next at) e ∙ after w x m 0 iw fw (hw ∙ ap (turning x) (omega arith)) in
           let e2 : iterate onward k (chosen (type u) v) ≡ chosen (type w) x =
-          sym (grow-type (n - k) (iterate onward k (chosen (type u) v)) (base (root (chosen (type u) v))) (omega arith)) ∙ ap messageType e1 ∙ grow-type m (chosen (type w) x) (base (root (chosen (type w) x))) (omega arith) in
+          sym (grow-type (n - k) (iterate onward k (chosen (type u) v)) (base (root (chosen (type u) v))) (omega arith)) ∙ ap messageType e1
+          ∙ grow-type m (chosen (type w) x) (base (root (chosen (type w) x))) (omega arith) in
           let e3 : root (chosen (type u) v) ≡ root (chosen (type w) x) = sym (root-iterate k (chosen (type u) v) c) ∙ ap root e2 in
           let e4 : n - k ≡ m = grow-once (n - k) m (chosen (type w) x) (base (root (chosen (type w) x))) c2
           (subst (λ (r : ℕ). grow (n - k) r (base (root (chosen (type w) x))) ≡ grow m (chosen (type w) x) (base (root (chosen (type w) x)))) e2

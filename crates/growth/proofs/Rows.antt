@@ -117,7 +117,8 @@ module _ (ts : Types) (type variantFor : ℕ → ℕ) (count most top : ℕ) whe
         let a : sum (map (λ r. length (rootChain r)) (from (length ts) 0)) ≤ sum (map (λ r. sharing r * lapMost) (from (length ts) 0)) =
         sum-map-le (λ r. length (rootChain r)) (λ r. sharing r * lapMost) (from (length ts) 0) (λ r m. each r) in
         let b : sum (map (λ r. sharing r * lapMost) (from (length ts) 0)) ≡ sum (map sharing (from (length ts) 0)) * lapMost = sum-map-times sharing lapMost (from (length ts) 0) in
-        let c : sum (map (countBy circling rootAt (from count 0)) (from (length ts) 0)) ≤ count = subst (λ (k : ℕ). sum (map (countBy circling rootAt (from count 0)) (from (length ts) 0)) ≤ k) (from-length count 0) (count-by-key circling rootAt (length ts) (from count 0)) in
+        let c : sum (map (countBy circling rootAt (from count 0)) (from (length ts) 0)) ≤ count =
+        omega (arith, from-length count 0, count-by-key circling rootAt (length ts) (from count 0)) in
         let d : sum (map sharing (from (length ts) 0)) * lapMost ≤ count * lapMost = mul-le-mul-right lapMost c in
         omega (arith, concatMap-length rootChain (from (length ts) 0))
       where
@@ -222,7 +223,10 @@ module _ (ts : Types) (type variantFor : ℕ → ℕ) (count most top : ℕ) whe
           number-case e f = (λ m q. absurd (List·Memᴰ·not-nil q), number-parts rows (type c) (pos (top + c)))
 
           into-case : isNumber ts (type c) ≡ false → stepsToNumber ts (start c) < length ts → Held c (into (variantFor c) (stepsToNumber ts (start c)) (pos (top + c)))
-          into-case e l f = (λ m q. both m (List·Memᴰ·append-cases (chain (stepsToNumber ts (start c)) (start c) last) q), wrap-parts (type c) (variantFor c) (growFrom ts (stepsToNumber ts (start c)) (start c) last) (chain-first (stepsToNumber ts (start c)) (start c) last above last-in))
+          into-case e l f = (
+            λ m q. both m (List·Memᴰ·append-cases (chain (stepsToNumber ts (start c)) (start c) last) q),
+            wrap-parts (type c) (variantFor c) (growFrom ts (stepsToNumber ts (start c)) (start c) last) (chain-first (stepsToNumber ts (start c)) (start c) last above last-in),
+          )
             where
               last : Message
               last = number (iterate (nextType ts) (stepsToNumber ts (start c)) (start c)) (pos (top + c))
