@@ -1,7 +1,6 @@
 -- Grown messages. A free class takes either a message whose path ends in a number of its own, or one whose path goes
 -- round a cycle of types a number of times of its own. Such messages lie apart: no other leaf class's message is met on
 -- the first stretch of a free class's path. Assumes nothing.
--- a message at one position, and defaults at the others
 use mathlib.Core.Path.{_≡_, refl, ap, sym, _∙_, subst}
 use mathlib.Core.List.{List, [], _∷_, map}
 use Prim.Native.Nat.{ℕ, zero, suc, _+_, _≤_, _<_, _-_}
@@ -13,8 +12,10 @@ use Rattle.guard.specs.Message.{Message, Message.made, Message.number, Parts.ni
 use Rattle.guard.specs.Shown.{messageType}
 use Rattle.guard.proofs.MessageLaws.{messageSize, size-part}
 use Rattle.growth.proofs.Injective.{Kind, Kind.const, Kind.free, Kind.node, Leaf}
+use Rattle.growth.proofs.Orbit.{iterate}
 use Rattle.growth.proofs.Paths.{down, end, end-down, end-next, next}
 
+-- a message at one position, and defaults at the others
 abbrev pub fill : (ℕ → Message) → List ℕ → ℕ → Message → List Message
 fill def [] p m = []
 fill def (f ∷ fs) zero m = m ∷ map def fs
@@ -58,9 +59,54 @@ module _ (at : ℕ → ℕ → ℕ) (fields : ℕ → ℕ → List ℕ) (def : �
   grow zero t e = e
   grow (suc n) t e = wrap t (by t) (grow n (onward t) e)
 
-  abbrev pub onwards : ℕ → ℕ → ℕ
-  onwards zero t = t
-  onwards (suc k) t = onwards k (onward t)
+  -- each of n steps of growth from a type is by a variant with fields
+  abbrev pub Growing : ℕ → ℕ → Type 0
+  Growing zero t = Unit {0}
+  Growing (suc n) t = (0 < length (fields t (by t))) × Growing n (onward t)
+
+  pub grow-add : (a b t : ℕ) (e : Message) → grow (a + b) t e ≡ grow a t (grow b (iterate onward a t) e)
+  grow-add zero b t e = ap (λ (k : ℕ). grow k t e) (let q : 0 + b ≡ b = omega arith in q)
+  grow-add (suc a) b t e = ap (λ (k : ℕ). grow k t e) (let q : suc a + b ≡ suc (a + b) = omega arith in q) ∙ ap (wrap t (by t)) (grow-add a b (onward t) e)
+
+  module _ (Cyclic : ℕ → Type 0) (grows : (t : ℕ) → Cyclic t → 0 < length (fields t (by t))) (stays : (t : ℕ) → Cyclic t → Cyclic (onward t)) where
+    pub cyclic-growing : (n t : ℕ) → Cyclic t → Growing n t
+    cyclic-growing zero t c = tt
+    cyclic-growing (suc n) t c = (grows t c, cyclic-growing n (onward t) (stays t c))
+
+  module _ (inside : (t v : ℕ) → 0 < length (fields t v) → at t v < length (fields t v)) where
+    next-wrap : (t v : ℕ) (m : Message) → 0 < length (fields t v) → next at (wrap t v m) ≡ m
+    next-wrap t v m h = fill-at def (fields t v) (at t v) m (wrap t v m) (inside t v h)
+
+    wrap-size : (t v : ℕ) (m : Message) → 0 < length (fields t v) → messageSize m < messageSize (wrap t v m)
+    wrap-size t v m h =
+        let e : messageSize (next at (wrap t v m)) ≡ messageSize m = ap messageSize (next-wrap t v m h) in
+        omega (arith, size-part (fill def (fields t v) (at t v) m) (at t v) (wrap t v m) (omega (arith, fill-length def (fields t v) (at t v) m, inside t v h)))
+
+    not-bare : (t v : ℕ) (m : Message) → 0 < length (fields t v) → ¬ Bare (wrap t v m)
+    not-bare t v m h = go (fill def (fields t v) (at t v) m) (omega (arith, fill-length def (fields t v) (at t v) m))
+      where
+        go : (ms : List Message) → 0 < length ms → ¬ Bare (made t v (toParts ms))
+        go [] k b = omega arith
+        go (x ∷ xs) k b = b
+
+    pub end-wrap : (t v : ℕ) (m : Message) → 0 < length (fields t v) → end at (wrap t v m) ≡ end at m
+    end-wrap t v m h = sym (end-next at (wrap t v m)) ∙ ap (end at) (next-wrap t v m h)
+
+    pub end-grow : (n t : ℕ) (e : Message) → Growing n t → end at (grow n t e) ≡ end at e
+    end-grow zero t e h = refl
+    end-grow (suc n) t e h = end-wrap t (by t) (grow n (onward t) e) (h .0) ∙ end-grow n (onward t) e (h .1)
+
+    -- the path of a growth
+    down-grow : (k n t : ℕ) (e : Message) → Growing k t → down at k (grow (k + n) t e) ≡ grow n (iterate onward k t) e
+    down-grow zero n t e h = let q : 0 + n ≡ n = omega arith in ap (λ (m : ℕ). grow m t e) q
+    down-grow (suc k) n t e h =
+        let q : suc k + n ≡ suc (k + n) = omega arith in
+        ap (λ (m : ℕ). down at k (next at (grow m t e))) q
+        ∙ ap (down at k) (next-wrap t (by t) (grow (k + n) (onward t) e) (h .0)) ∙ down-grow k n (onward t) e (h .1)
+
+    grow-size : (n t : ℕ) (e : Message) → Growing n t → n + messageSize e ≤ messageSize (grow n t e)
+    grow-size zero t e h = omega arith
+    grow-size (suc n) t e h = omega (arith, grow-size n (onward t) e (h .1), wrap-size t (by t) (grow n (onward t) e) (h .0))
 
   module _ (In : ℕ → Type 0) (type : ℕ → ℕ) (kind : ℕ → Kind) (val : ℕ → Message) (most : ℕ)
       -- types that grow round a cycle, its root, and what stands at the end of a growth there
@@ -86,64 +132,33 @@ module _ (at : ℕ → ℕ → ℕ) (fields : ℕ → ℕ → List ℕ) (def : �
           → root (chosen (type u) v) ≡ root (chosen (type w) x) → k ≤ most → w ≡ u
 
     module _ (g : Grown) where
-      next-wrap : (t v : ℕ) (m : Message) → 0 < length (fields t v) → next at (wrap t v m) ≡ m
-      next-wrap t v m h = fill-at def (fields t v) (at t v) m (wrap t v m) (g .inside t v h)
+      growing : (n t : ℕ) → Cyclic t → Growing n t
+      growing = cyclic-growing Cyclic (g .grows) (g .stays)
 
-      wrap-size : (t v : ℕ) (m : Message) → 0 < length (fields t v) → messageSize m < messageSize (wrap t v m)
-      wrap-size t v m h =
-          let e : messageSize (next at (wrap t v m)) ≡ messageSize m = ap messageSize (next-wrap t v m h) in
-          omega (arith, size-part (fill def (fields t v) (at t v) m) (at t v) (wrap t v m) (omega (arith, fill-length def (fields t v) (at t v) m, g .inside t v h)))
+      root-iterate : (k t : ℕ) → Cyclic t → root (iterate onward k t) ≡ root t
+      root-iterate zero t h = refl
+      root-iterate (suc k) t h = root-iterate k (onward t) (g .stays t h) ∙ g .rooted t h
 
-      not-bare : (t v : ℕ) (m : Message) → 0 < length (fields t v) → ¬ Bare (wrap t v m)
-      not-bare t v m h = go (fill def (fields t v) (at t v) m) (omega (arith, fill-length def (fields t v) (at t v) m))
-        where
-          go : (ms : List Message) → 0 < length ms → ¬ Bare (made t v (toParts ms))
-          go [] k b = omega arith
-          go (x ∷ xs) k b = b
-
-      end-wrap : (t v : ℕ) (m : Message) → 0 < length (fields t v) → end at (wrap t v m) ≡ end at m
-      end-wrap t v m h = sym (end-next at (wrap t v m)) ∙ ap (end at) (next-wrap t v m h)
-
-      end-grow : (n t : ℕ) (e : Message) → Cyclic t → end at (grow n t e) ≡ end at e
-      end-grow zero t e h = refl
-      end-grow (suc n) t e h = end-wrap t (by t) (grow n (onward t) e) (g .grows t h) ∙ end-grow n (onward t) e (g .stays t h)
-
-      -- the path of a growth
-      down-grow : (k n t : ℕ) (e : Message) → Cyclic t → down at k (grow (k + n) t e) ≡ grow n (onwards k t) e
-      down-grow zero n t e h = let q : 0 + n ≡ n = omega arith in ap (λ (m : ℕ). grow m t e) q
-      down-grow (suc k) n t e h =
-          let q : suc k + n ≡ suc (k + n) = omega arith in
-          ap (λ (m : ℕ). down at k (next at (grow m t e))) q
-          ∙ ap (down at k) (next-wrap t (by t) (grow (k + n) (onward t) e) (g .grows t h)) ∙ down-grow k n (onward t) e (g .stays t h)
-
-      root-onwards : (k t : ℕ) → Cyclic t → root (onwards k t) ≡ root t
-      root-onwards zero t h = refl
-      root-onwards (suc k) t h = root-onwards k (onward t) (g .stays t h) ∙ g .rooted t h
-
-      cyclic-onwards : (k t : ℕ) → Cyclic t → Cyclic (onwards k t)
-      cyclic-onwards zero t h = h
-      cyclic-onwards (suc k) t h = cyclic-onwards k (onward t) (g .stays t h)
-
-      grow-size : (n t : ℕ) (e : Message) → Cyclic t → n + messageSize e ≤ messageSize (grow n t e)
-      grow-size zero t e h = omega arith
-      grow-size (suc n) t e h = omega (arith, grow-size n (onward t) e (g .stays t h), wrap-size t (by t) (grow n (onward t) e) (g .grows t h))
+      cyclic-iterate : (k t : ℕ) → Cyclic t → Cyclic (iterate onward k t)
+      cyclic-iterate zero t h = h
+      cyclic-iterate (suc k) t h = cyclic-iterate k (onward t) (g .stays t h)
 
       -- growths from one type to one end differ in nothing but their number of steps
       grow-once : (m n t : ℕ) (e : Message) → Cyclic t → grow m t e ≡ grow n t e → m ≡ n
       grow-once zero zero t e h q = refl
-      grow-once zero (suc n) t e h q = let z : messageSize e ≡ messageSize (grow (suc n) t e) = ap messageSize q in absurd (omega (arith, grow-size (suc n) t e h))
-      grow-once (suc m) zero t e h q = let z : messageSize (grow (suc m) t e) ≡ messageSize e = ap messageSize q in absurd (omega (arith, grow-size (suc m) t e h))
+      grow-once zero (suc n) t e h q = let z : messageSize e ≡ messageSize (grow (suc n) t e) = ap messageSize q in absurd (omega (arith, grow-size (g .inside) (suc n) t e (growing (suc n) t h)))
+      grow-once (suc m) zero t e h q = let z : messageSize (grow (suc m) t e) ≡ messageSize e = ap messageSize q in absurd (omega (arith, grow-size (g .inside) (suc m) t e (growing (suc m) t h)))
       grow-once (suc m) (suc n) t e h q =
           ap suc (grow-once m n (onward t) e (g .stays t h)
-          (sym (next-wrap t (by t) (grow m (onward t) e) (g .grows t h)) ∙ ap (next at) q ∙ next-wrap t (by t) (grow n (onward t) e) (g .grows t h)))
+          (sym (next-wrap (g .inside) t (by t) (grow m (onward t) e) (g .grows t h)) ∙ ap (next at) q ∙ next-wrap (g .inside) t (by t) (grow n (onward t) e) (g .grows t h)))
 
-      grow-tag : (n t : ℕ) (e : Message) → 0 < n → messageType (grow n t e) ≡ t
-      grow-tag zero t e h = absurd (omega arith)
-      grow-tag (suc n) t e h = refl
+      grow-type : (n t : ℕ) (e : Message) → 0 < n → messageType (grow n t e) ≡ t
+      grow-type zero t e h = absurd (omega arith)
+      grow-type (suc n) t e h = refl
 
       grow-full : (n t : ℕ) (e : Message) → 0 < n → Cyclic t → ¬ Bare (grow n t e)
       grow-full zero t e h c = absurd (omega arith)
-      grow-full (suc n) t e h c = not-bare t (by t) (grow n (onward t) e) (g .grows t c)
+      grow-full (suc n) t e h c = not-bare (g .inside) t (by t) (grow n (onward t) e) (g .grows t c)
 
       next-down : (k : ℕ) (m : Message) → next at (down at k m) ≡ down at k (next at m)
       next-down zero m = refl
@@ -155,17 +170,18 @@ module _ (at : ℕ → ℕ → ℕ) (fields : ℕ → ℕ → List ℕ) (def : �
       bare-next (made t v (part m ms)) b = absurd b
 
       -- what a message that turns shows after k steps and one
-      after : (u v n k : ℕ) → In u → kind u ≡ free → how u ≡ turning v (k + n) → next at (down at k (val u)) ≡ grow n (onwards k (chosen (type u) v)) (base (root (chosen (type u) v)))
+      after : (u v n k : ℕ) → In u → kind u ≡ free → how u ≡ turning v (k + n) → next at (down at k (val u)) ≡ grow n (iterate onward k (chosen (type u) v)) (base (root (chosen (type u) v)))
       after u v n k i f h =
           let (p, c, e) = g .turns u v (k + n) i f h in
           next-down k (val u)
-          ∙ ap (down at k) (ap (next at) e ∙ next-wrap (type u) v (grow (k + n) (chosen (type u) v) (base (root (chosen (type u) v)))) p)
-          ∙ down-grow k n (chosen (type u) v) (base (root (chosen (type u) v))) c
+          ∙ ap (down at k) (ap (next at) e ∙ next-wrap (g .inside) (type u) v (grow (k + n) (chosen (type u) v) (base (root (chosen (type u) v)))) p)
+          ∙ down-grow (g .inside) k n (chosen (type u) v) (base (root (chosen (type u) v))) (growing k (chosen (type u) v) c)
 
       turn-end : (u v n : ℕ) → In u → kind u ≡ free → how u ≡ turning v n → end at (val u) ≡ end at (base (root (chosen (type u) v)))
       turn-end u v n i f h =
           let (p, c, e) = g .turns u v n i f h in
-          ap (end at) e ∙ end-wrap (type u) v (grow n (chosen (type u) v) (base (root (chosen (type u) v)))) p ∙ end-grow n (chosen (type u) v) (base (root (chosen (type u) v))) c
+          ap (end at) e ∙ end-wrap (g .inside) (type u) v (grow n (chosen (type u) v) (base (root (chosen (type u) v)))) p
+          ∙ end-grow (g .inside) n (chosen (type u) v) (base (root (chosen (type u) v))) (growing n (chosen (type u) v) c)
 
       -- a message with parts is not one without
       turn-bare : (u w v n k : ℕ) → In u → kind u ≡ free → how u ≡ turning v n → k ≤ most → Bare (val w) → down at k (val u) ≡ val w → ⊥
@@ -173,7 +189,7 @@ module _ (at : ℕ → ℕ → ℕ) (fields : ℕ → ℕ → List ℕ) (def : �
           let l : most < n = g .long u v n i f h in
           let s : k + (n - k) ≡ n = omega arith in
           let (p, c, q) = g .turns u v n i f h in
-          grow-full (n - k) (onwards k (chosen (type u) v)) (base (root (chosen (type u) v))) (omega arith) (cyclic-onwards k (chosen (type u) v) c)
+          grow-full (n - k) (iterate onward k (chosen (type u) v)) (base (root (chosen (type u) v))) (omega arith) (cyclic-iterate k (chosen (type u) v) c)
           (subst Bare (sym (bare-next (val w) b) ∙ ap (next at) (sym e) ∙ after u v (n - k) k i f (h ∙ ap (turning v) (sym s))) b)
 
       turn-turn : (u w v x n m k : ℕ) → In u → kind u ≡ free → how u ≡ turning v n → In w → kind w ≡ free → how w ≡ turning x m → k ≤ most → down at k (val u) ≡ val w → w ≡ u
@@ -183,14 +199,15 @@ module _ (at : ℕ → ℕ → ℕ) (fields : ℕ → ℕ → List ℕ) (def : �
           let s : k + (n - k) ≡ n = omega arith in
           let (p, c, q) = g .turns u v n i f h in
           let (p2, c2, q2) = g .turns w x m iw fw hw in
-          let e1 : grow (n - k) (onwards k (chosen (type u) v)) (base (root (chosen (type u) v))) ≡ grow m (chosen (type w) x) (base (root (chosen (type w) x))) =
+          let e1 : grow (n - k) (iterate onward k (chosen (type u) v)) (base (root (chosen (type u) v))) ≡ grow m (chosen (type w) x) (base (root (chosen (type w) x))) =
           sym (after u v (n - k) k i f (h ∙ ap (turning v) (sym s))) ∙ ap (next at) e ∙ after w x m 0 iw fw (hw ∙ ap (turning x) (omega arith)) in
-          let e2 : onwards k (chosen (type u) v) ≡ chosen (type w) x =
-          sym (grow-tag (n - k) (onwards k (chosen (type u) v)) (base (root (chosen (type u) v))) (omega arith)) ∙ ap messageType e1 ∙ grow-tag m (chosen (type w) x) (base (root (chosen (type w) x))) (omega arith) in
-          let e3 : root (chosen (type u) v) ≡ root (chosen (type w) x) = sym (root-onwards k (chosen (type u) v) c) ∙ ap root e2 in
+          let e2 : iterate onward k (chosen (type u) v) ≡ chosen (type w) x =
+          sym (grow-type (n - k) (iterate onward k (chosen (type u) v)) (base (root (chosen (type u) v))) (omega arith)) ∙ ap messageType e1
+          ∙ grow-type m (chosen (type w) x) (base (root (chosen (type w) x))) (omega arith) in
+          let e3 : root (chosen (type u) v) ≡ root (chosen (type w) x) = sym (root-iterate k (chosen (type u) v) c) ∙ ap root e2 in
           let e4 : n - k ≡ m = grow-once (n - k) m (chosen (type w) x) (base (root (chosen (type w) x))) c2
           (subst (λ (r : ℕ). grow (n - k) r (base (root (chosen (type w) x))) ≡ grow m (chosen (type w) x) (base (root (chosen (type w) x)))) e2
-          (subst (λ (r : ℕ). grow (n - k) (onwards k (chosen (type u) v)) (base r) ≡ grow m (chosen (type w) x) (base (root (chosen (type w) x)))) e3 e1)) in
+          (subst (λ (r : ℕ). grow (n - k) (iterate onward k (chosen (type u) v)) (base r) ≡ grow m (chosen (type w) x) (base (root (chosen (type w) x)))) e3 e1)) in
           g .gap u w v x m k i f (h ∙ ap (turning v) (omega arith)) iw fw hw e3 hk
 
       -- no other leaf lies on the first stretch of a free class's path
