@@ -1,5 +1,5 @@
--- Plans in closed form. Classes are numbers below `count`; each comes with a type and, if that is a variant type, with a
--- variant with fields. Number ends are `top` plus the class, past all constants. The classes that grow round a cycle are
+-- Plans in closed form. Each of a list of classes comes with a type, with a variant with fields if that is a variant type,
+-- and with a number for its end if growth leads to one. The classes that grow round a cycle are
 -- counted by root: the i-th goes down to the root and then round it for i laps, a lap being the least whole number of
 -- rounds that is longer than every rank and every distance together. So growths of one root differ by more than every rank,
 -- even where one class starts farther from the root than another. Assumes nothing.
@@ -10,13 +10,13 @@ use native.Mathlib.Omega.{arith}
 use lib.Dec.{eqb, ltb}
 use lib.ListN.{length}
 use borrow.Author.Tests.{eqb-true, eq-eqb, ltb-true, ltb-false, lt-ltb, le-ltb}
-use mathlib.Core.List.{[]}
+use mathlib.Core.List.{[], List, List·Memᴰ}
 use mathlib.Core.Option.{some}
 use lib.IntN.{ℤ, pos}
 use native.Mathlib.Nat.{mul-le-mul-right, div-add-mod', mod-lt}
-use Rattle.laws.specs.Lists.{filter, from}
+use Rattle.laws.specs.Lists.{filter}
 use Rattle.laws.proofs.Bools.{and-both, and-left, and-right, cond-ind}
-use Rattle.laws.proofs.Lists.{mem-from, none-some}
+use Rattle.laws.proofs.Lists.{none-some}
 use Rattle.laws.proofs.Members.{filter-lt}
 use Rattle.laws.proofs.Positions.{least-first, least-passes}
 use Rattle.guard.specs.Meaning.{IsVariant}
@@ -79,26 +79,26 @@ module _ (ts : Types) (type variantFor : ℕ → ℕ) where
   abbrev pub circles : ℕ → Bool
   circles c = not (isNumber ts (type c)) && not (ltb (stepsToNumber ts (startOf c)) (length ts))
 
-  module _ (count : ℕ) where
+  module _ (classes : List ℕ) where
     -- the class is the i-th of those that grow round its root's cycle
     unfoldable pub rootIndex : ℕ → ℕ
-    rootIndex c = suc (length (filter (λ x. ltb x c && (circles x && eqb (rootFor x) (rootFor c))) (from count 0)))
+    rootIndex c = suc (length (filter (λ x. ltb x c && (circles x && eqb (rootFor x) (rootFor c))) classes))
 
     index-positive : (c : ℕ) → 0 < rootIndex c
     unfolding rootIndex
-    index-positive c = positive (length (filter (λ x. ltb x c && (circles x && eqb (rootFor x) (rootFor c))) (from count 0)))
+    index-positive c = positive (length (filter (λ x. ltb x c && (circles x && eqb (rootFor x) (rootFor c))) classes))
       where
         positive : (n : ℕ) → 0 < suc n
         positive n = omega arith
 
-    index-less : (u w : ℕ) → u < w → u < count → circles u ≡ true → rootFor u ≡ rootFor w → rootIndex u < rootIndex w
+    index-less : (u w : ℕ) → u < w → List·Memᴰ u classes → circles u ≡ true → rootFor u ≡ rootFor w → rootIndex u < rootIndex w
     unfolding rootIndex
     index-less u w h hu p e =
-        suc-less (filter-lt (λ x. ltb x u && (circles x && eqb (rootFor x) (rootFor u))) (λ x. ltb x w && (circles x && eqb (rootFor x) (rootFor w))) (from count 0)
+        suc-less (filter-lt (λ x. ltb x u && (circles x && eqb (rootFor x) (rootFor u))) (λ x. ltb x w && (circles x && eqb (rootFor x) (rootFor w))) classes
         (λ x m q. and-both (ltb x w) (circles x && eqb (rootFor x) (rootFor w)) (lt-ltb x w (omega (arith, ltb-true x u (and-left (ltb x u) _ q))))
         (and-both (circles x) (eqb (rootFor x) (rootFor w)) (and-left (circles x) _ (and-right (ltb x u) _ q))
         (eq-eqb (rootFor x) (rootFor w) (eqb-true (rootFor x) (rootFor u) (and-right (circles x) _ (and-right (ltb x u) _ q)) ∙ e))))
-        u (mem-from count 0 u (omega arith) (omega arith))
+        u hu
         (ap (λ (b : Bool). b && (circles u && eqb (rootFor u) (rootFor u))) (le-ltb u u (omega arith)))
         (and-both (ltb u w) (circles u && eqb (rootFor u) (rootFor w)) (lt-ltb u w h) (and-both (circles u) (eqb (rootFor u) (rootFor w)) p (eq-eqb (rootFor u) (rootFor w) e))))
       where
@@ -106,7 +106,7 @@ module _ (ts : Types) (type variantFor : ℕ → ℕ) where
         suc-less h = omega arith
 
     -- classes of one root have different indices
-    index-once : (u w : ℕ) → u < count → w < count → circles u ≡ true → circles w ≡ true → rootFor u ≡ rootFor w → rootIndex u ≡ rootIndex w → w ≡ u
+    index-once : (u w : ℕ) → List·Memᴰ u classes → List·Memᴰ w classes → circles u ≡ true → circles w ≡ true → rootFor u ≡ rootFor w → rootIndex u ≡ rootIndex w → w ≡ u
     index-once u w hu hw pu pw e q = go (ltb u w) (ltb w u) refl refl
       where
         go : (a b : Bool) → ltb u w ≡ a → ltb w u ≡ b → w ≡ u
@@ -150,14 +150,14 @@ module _ (ts : Types) (type variantFor : ℕ → ℕ) where
             same-lap (rootIndex u) (rootIndex w) (lap ts most (rootFor u)) k (distanceOf ts (startOf u)) (distanceOf ts (startOf w)) most (length ts - 1)
             (q ∙ ap (λ (r : ℕ). k + (distanceOf ts (startOf w) + rootIndex w * lap ts most r)) (sym e)) hk (distance-far u hu) (distance-far w hw) (lap-long ts most (rootFor u))
 
-      module _ (top : ℕ) where
+      module _ (endFor : ℕ → ℤ) where
         unfoldable pub closedPlan : ℕ → Plan
         closedPlan c =
-            cond (isNumber ts (type c)) (atOnce (pos (top + c)))
-            (cond (ltb (stepsToNumber ts (startOf c)) (length ts)) (into (variantFor c) (stepsToNumber ts (startOf c)) (pos (top + c))) (around (variantFor c) (closedSteps c)))
+            cond (isNumber ts (type c)) (atOnce (endFor c))
+            (cond (ltb (stepsToNumber ts (startOf c)) (length ts)) (into (variantFor c) (stepsToNumber ts (startOf c)) (endFor c)) (around (variantFor c) (closedSteps c)))
 
-        pub closedPlan-ind : (P : Plan → Type 0) (c : ℕ) → (isNumber ts (type c) ≡ true → P (atOnce (pos (top + c))))
-            → (isNumber ts (type c) ≡ false → stepsToNumber ts (startOf c) < length ts → P (into (variantFor c) (stepsToNumber ts (startOf c)) (pos (top + c))))
+        pub closedPlan-ind : (P : Plan → Type 0) (c : ℕ) → (isNumber ts (type c) ≡ true → P (atOnce (endFor c)))
+            → (isNumber ts (type c) ≡ false → stepsToNumber ts (startOf c) < length ts → P (into (variantFor c) (stepsToNumber ts (startOf c)) (endFor c)))
             → (isNumber ts (type c) ≡ false → circles c ≡ true → length ts ≤ stepsToNumber ts (startOf c) → P (around (variantFor c) (closedSteps c))) → P (closedPlan c)
         unfolding closedPlan
         closedPlan-ind P c f g h =
@@ -169,8 +169,15 @@ module _ (ts : Types) (type variantFor : ℕ → ℕ) where
         pub closed-variant : (c : ℕ) → isNumber ts (type c) ≡ false → IsVariant (plannedMessage ts (type c) (closedPlan c)) (variantFor c)
         closed-variant c e = closedPlan-ind (λ p. IsVariant (plannedMessage ts (type c) p) (variantFor c)) c (λ n. absurd (false≢true (sym e ∙ n))) (λ n h. refl) (λ n h l. refl)
 
-        closed-end : (c : ℕ) (z : ℤ) → endNumber (closedPlan c) ≡ some z → z ≡ pos (top + c)
-        closed-end c z = closedPlan-ind (λ p. endNumber p ≡ some z → z ≡ pos (top + c)) c (λ n e. (cc)) (λ n h e. (cc)) (λ n h l e. absurd (none-some z e))
+        -- a plan with a number at its end has the one given, and goes round no cycle
+        closed-end : (c : ℕ) (z : ℤ) → endNumber (closedPlan c) ≡ some z → (z ≡ endFor c) × (circles c ≡ false)
+        closed-end c z =
+            closedPlan-ind (λ p. endNumber p ≡ some z → (z ≡ endFor c) × (circles c ≡ false)) c (λ n e. ((cc), ap (λ (b : Bool). not b && not (ltb (stepsToNumber ts (startOf c)) (length ts))) n))
+            (λ n h e. ((cc), ap (λ (b : Bool). not (isNumber ts (type c)) && not b) (lt-ltb _ _ h) ∙ and-no (not (isNumber ts (type c))))) (λ n h l e. absurd (none-some z e))
+          where
+            and-no : (b : Bool) → (b && false) ≡ false
+            and-no true = refl
+            and-no false = refl
 
         record Around (c v n : ℕ) : Type 0 where
           variant : v ≡ variantFor c
@@ -196,11 +203,12 @@ module _ (ts : Types) (type variantFor : ℕ → ℕ) where
         -- ---- what has to be shown of the classes for plans in closed form
         module _ (In : ℕ → Type 0) (kind : ℕ → Kind) (val : ℕ → Message) where
           pub record Choices : Type 0 where
-            pub few : (c : ℕ) → In c → c < count
+            pub few : (c : ℕ) → In c → List·Memᴰ c classes
             pub wide : (c : ℕ) → In c → kind c ≡ free → isNumber ts (type c) ≡ false → 0 < length (fieldsOf ts (type c) (variantFor c))
-            -- constants lie below the numbers at ends
-            pub below : (c k : ℕ) → In c → kind c ≡ const (pos k) → k < top
-            pub positive : 0 < top
+            -- numbers at ends: no constants, different, not 0
+            pub fresh : (u w : ℕ) → In u → kind u ≡ free → circles u ≡ false → In w → ¬ (kind w ≡ const (endFor u))
+            pub own : (u w : ℕ) → In u → kind u ≡ free → circles u ≡ false → In w → kind w ≡ free → circles w ≡ false → endFor u ≡ endFor w → w ≡ u
+            pub nonzero : (u : ℕ) → In u → kind u ≡ free → circles u ≡ false → ¬ (endFor u ≡ pos 0)
             -- messages
             pub free-val : (c : ℕ) → In c → kind c ≡ free → val c ≡ plannedMessage ts (type c) (closedPlan c)
             pub node-val : (c v : ℕ) → In c → kind c ≡ node v [] → val c ≡ made (type c) v nil
@@ -213,19 +221,13 @@ module _ (ts : Types) (type variantFor : ℕ → ℕ) where
                 free-val = ch .free-val;
                 node-val = ch .node-val;
                 const-val = ch .const-val;
-                fresh = λ u w z i f e iw k. omega (arith, ch .below w (top + u) iw (k ∙ ap const (closed-end u z e)));
-                own = λ u w z i f e iw fw ew. same u w (sym (closed-end u z e) ∙ closed-end w z ew);
-                nonzero = λ u i f e. zero-not u (closed-end u (pos 0) e);
+                fresh = λ u w z i f e iw k. ch .fresh u w i f (closed-end u z e .1) iw (k ∙ ap const (closed-end u z e .0));
+                own = λ u w z i f e iw fw ew. ch .own u w i f (closed-end u z e .1) iw fw (closed-end w z ew .1) (sym (closed-end u z e .0) ∙ closed-end w z ew .0);
+                nonzero = λ u i f e. ch .nonzero u i f (closed-end u (pos 0) e .1) (sym (closed-end u (pos 0) e .0));
                 long = λ u v n i f e. subst (λ (k : ℕ). most < k) (sym (closed-around u v n e .number)) (steps-long u);
                 gap = λ u w v x n k i f e iw fw ew r hk. close u w v x n k i f iw fw (closed-around u v (k + n) e) (closed-around w x n ew) r hk;
               }
             where
-              same : (u w : ℕ) → pos (top + u) ≡ pos (top + w) → w ≡ u
-              same u w e = let q : top + u ≡ top + w = cc in omega arith
-
-              zero-not : (u : ℕ) → pos 0 ≡ pos (top + u) → ⊥
-              zero-not u e = let q : 0 ≡ top + u = cc in omega (arith, ch .positive)
-
               start-less : (c : ℕ) → In c → kind c ≡ free → isNumber ts (type c) ≡ false → startOf c < length ts
               start-less c i f e = chosen-infinite ts accepted (type c) (variantFor c) (ch .wide c i f e) .0
 

@@ -12,16 +12,15 @@ use native.Mathlib.Omega.{arith}
 use lib.Dec.{eqb, ltb}
 use lib.ListN.{length, length-append}
 use borrow.Author.Tests.{eq-eqb, le-ltb}
-use lib.IntN.{ℤ, pos}
+use lib.IntN.{ℤ}
 use native.Mathlib.Nat.{mul-le-mul-right, mul-le-mul-left}
 use Rattle.laws.specs.All.{All, All.more}
 use Rattle.laws.specs.Lists.{concatMap, from, sum}
 use Rattle.laws.proofs.Bools.{and-both, and-right}
 use Rattle.laws.proofs.Counts.{concatMap-length, count-by-key, countBy, sum-map-most, sum-map-times}
-use Rattle.laws.proofs.Lists.{all-mem, from-bounds, from-length, map-from-length, map-inv, mem-concatMap, mem-concatMap-inv, mem-from, mem-map, sum-map-le}
+use Rattle.laws.proofs.Lists.{all-mem, from-bounds, map-inv, map-length, mem-concatMap, mem-concatMap-inv, mem-from, mem-map, sum-map-le}
 use Rattle.laws.proofs.Members.{filter-lt}
 use Rattle.guard.specs.Message.{Message, Message.made, Message.number, toParts}
-use Rattle.guard.specs.Terms.{termCount}
 use Rattle.guard.specs.Types.{Types, defaultOf, fieldsOf, isNumber}
 use Rattle.guard.proofs.MessageLaws.{parts-eq}
 use Rattle.growth.proofs.ClosedPlans.{circles, closedPlan, closedPlan-ind, closedSteps, distance-far, distance-to-root, lap, lap-most, laps-back, laps-long, lapsOf, rootFor, rootIndex, startOf}
@@ -41,7 +40,7 @@ number-parts rows t z a b ms e p q = let y : _≡_ {A = ℕ} 0 1 = cc in absurd 
 made-parts : (rows : List Message) (t v : ℕ) (ms : List Message) → ((p : Message) → List·Memᴰ p ms → List·Memᴰ p rows) → PartsIn rows (made t v (toParts ms))
 made-parts rows t v ms h a b ns e p q = let e1 : toParts ms ≡ toParts ns = cc in h p (subst (List·Memᴰ p) (sym (parts-eq ms ns e1)) q)
 
-module _ (ts : Types) (type variantFor : ℕ → ℕ) (count most top : ℕ) where
+module _ (ts : Types) (type variantFor : ℕ → ℕ) (classes : List ℕ) (most : ℕ) (endFor : ℕ → ℤ) where
   abbrev start : ℕ → ℕ
   start = startOf ts type variantFor
 
@@ -52,16 +51,16 @@ module _ (ts : Types) (type variantFor : ℕ → ℕ) (count most top : ℕ) whe
   circling = circles ts type variantFor
 
   abbrev indexOf : ℕ → ℕ
-  indexOf = rootIndex ts type variantFor count
+  indexOf = rootIndex ts type variantFor classes
 
   abbrev laps : ℕ → ℕ
-  laps = lapsOf ts type variantFor count most
+  laps = lapsOf ts type variantFor classes most
 
   abbrev stepsOf : ℕ → ℕ
-  stepsOf = closedSteps ts type variantFor count most
+  stepsOf = closedSteps ts type variantFor classes most
 
   abbrev planOf : ℕ → Plan
-  planOf = closedPlan ts type variantFor count most top
+  planOf = closedPlan ts type variantFor classes most endFor
 
   -- the k messages of a growth of k steps, without its end
   abbrev chain : ℕ → ℕ → Message → List Message
@@ -70,7 +69,7 @@ module _ (ts : Types) (type variantFor : ℕ → ℕ) (count most top : ℕ) whe
 
   -- how many classes grow round a root's cycle
   unfoldable pub sharing : ℕ → ℕ
-  sharing r = countBy circling rootAt (from count 0) r
+  sharing r = countBy circling rootAt classes r
 
   abbrev rootChain : ℕ → List Message
   rootChain r = chain (sharing r * lap ts most r) r (defaultOf ts r)
@@ -89,7 +88,7 @@ module _ (ts : Types) (type variantFor : ℕ → ℕ) (count most top : ℕ) whe
   branch c = branchBy c (planOf c)
 
   unfoldable pub extraRows : List Message
-  extraRows = concatMap rootChain (from (length ts) 0) ++ concatMap branch (from count 0)
+  extraRows = concatMap rootChain (from (length ts) 0) ++ concatMap branch classes
 
   -- ---- how many they are
 
@@ -103,23 +102,23 @@ module _ (ts : Types) (type variantFor : ℕ → ℕ) (count most top : ℕ) whe
 
     branch-length : (c : ℕ) → length (branch c) ≤ length ts
     branch-length c =
-        closedPlan-ind ts type variantFor count most top (λ p. length (branchBy c p) ≤ length ts) c (λ e. omega arith)
-        (λ e h. let m : Message = number (iterate (nextType ts) (stepsToNumber ts (start c)) (start c)) (pos (top + c)) in
+        closedPlan-ind ts type variantFor classes most endFor (λ p. length (branchBy c p) ≤ length ts) c (λ e. omega arith)
+        (λ e h. let m : Message = number (iterate (nextType ts) (stepsToNumber ts (start c)) (start c)) (endFor c) in
         omega (arith, length-append (chain (stepsToNumber ts (start c)) (start c) m) (m ∷ []), chain-length (stepsToNumber ts (start c)) (start c) m))
-        (λ e h l. omega (arith, chain-length (distanceOf ts (start c)) (start c) (atRoot c), distance-far ts type variantFor count most accepted c (start-less c)))
+        (λ e h l. omega (arith, chain-length (distanceOf ts (start c)) (start c) (atRoot c), distance-far ts type variantFor classes most accepted c (start-less c)))
 
     abbrev lapMost : ℕ
     lapMost = most + (length ts - 1) + length ts
 
-    chains-length : length (concatMap rootChain (from (length ts) 0)) ≤ count * lapMost
+    chains-length : length (concatMap rootChain (from (length ts) 0)) ≤ length classes * lapMost
     unfolding sharing
     chains-length =
         let a : sum (map (λ r. length (rootChain r)) (from (length ts) 0)) ≤ sum (map (λ r. sharing r * lapMost) (from (length ts) 0)) =
         sum-map-le (λ r. length (rootChain r)) (λ r. sharing r * lapMost) (from (length ts) 0) (λ r m. each r) in
         let b : sum (map (λ r. sharing r * lapMost) (from (length ts) 0)) ≡ sum (map sharing (from (length ts) 0)) * lapMost = sum-map-times sharing lapMost (from (length ts) 0) in
-        let c : sum (map (countBy circling rootAt (from count 0)) (from (length ts) 0)) ≤ count =
-        omega (arith, from-length count 0, count-by-key circling rootAt (length ts) (from count 0)) in
-        let d : sum (map sharing (from (length ts) 0)) * lapMost ≤ count * lapMost = mul-le-mul-right lapMost c in
+        let c : sum (map (countBy circling rootAt classes) (from (length ts) 0)) ≤ length classes =
+        omega (arith, count-by-key circling rootAt (length ts) classes) in
+        let d : sum (map sharing (from (length ts) 0)) * lapMost ≤ length classes * lapMost = mul-le-mul-right lapMost c in
         omega (arith, concatMap-length rootChain (from (length ts) 0))
       where
         each : (r : ℕ) → length (rootChain r) ≤ sharing r * lapMost
@@ -128,13 +127,12 @@ module _ (ts : Types) (type variantFor : ℕ → ℕ) (count most top : ℕ) whe
             let h : sharing r * lap ts most r ≤ sharing r * lapMost = mul-le-mul-left (sharing r) (lap-most ts most r some-type) in
             omega arith
 
-    pub extra-length : length extraRows ≤ count * (most + (length ts - 1) + length ts) + count * length ts
+    pub extra-length : length extraRows ≤ length classes * (most + (length ts - 1) + length ts) + length classes * length ts
     unfolding extraRows
     extra-length =
-        let b : length (concatMap branch (from count 0)) ≤ count * length ts =
-        subst (λ (k : ℕ). length (concatMap branch (from count 0)) ≤ k * length ts) (from-length count 0)
-        (subst (λ (k : ℕ). k ≤ length (from count 0) * length ts) (sym (concatMap-length branch (from count 0))) (sum-map-most (λ c. length (branch c)) (length ts) (from count 0) (λ c m. branch-length c))) in
-        omega (arith, length-append (concatMap rootChain (from (length ts) 0)) (concatMap branch (from count 0)), chains-length)
+        let b : sum (map (λ c. length (branch c)) classes) ≤ length classes * length ts = sum-map-most (λ c. length (branch c)) (length ts) classes (λ c m. branch-length c) in
+        let d : length (concatMap branch classes) ≡ sum (map (λ c. length (branch c)) classes) = concatMap-length branch classes in
+        omega (arith, length-append (concatMap rootChain (from (length ts) 0)) (concatMap branch classes), chains-length)
 
     -- ---- their parts are among them and the defaults
 
@@ -145,11 +143,11 @@ module _ (ts : Types) (type variantFor : ℕ → ℕ) (count most top : ℕ) whe
         subst (λ (k : ℕ). List·Memᴰ (growFrom ts b (iterate (nextType ts) a (nextType ts t)) e) (chain k t e)) (let q : suc (a + b) ≡ suc a + b = omega arith in q)
         (List·Memᴰ·tail (chain-mem a b (nextType ts t) e h))
 
-    index-sharing : (c : ℕ) → c < count → circling c ≡ true → indexOf c ≤ sharing (rootAt c)
+    index-sharing : (c : ℕ) → List·Memᴰ c classes → circling c ≡ true → indexOf c ≤ sharing (rootAt c)
     unfolding sharing rootIndex
     index-sharing c h p =
-        filter-lt (λ x. ltb x c && (circling x && eqb (rootAt x) (rootAt c))) (λ x. circling x && eqb (rootAt x) (rootAt c)) (from count 0)
-        (λ x m q. and-right (ltb x c) _ q) c (mem-from count 0 c (omega arith) (omega arith))
+        filter-lt (λ x. ltb x c && (circling x && eqb (rootAt x) (rootAt c))) (λ x. circling x && eqb (rootAt x) (rootAt c)) classes
+        (λ x m q. and-right (ltb x c) _ q) c h
         (ap (λ (b : Bool). b && (circling c && eqb (rootAt c) (rootAt c))) (le-ltb c c (omega arith)))
         (and-both (circling c) (eqb (rootAt c) (rootAt c)) p (eq-eqb (rootAt c) (rootAt c) refl))
 
@@ -180,17 +178,17 @@ module _ (ts : Types) (type variantFor : ℕ → ℕ) (count most top : ℕ) whe
 
       rootChain-in : (r : ℕ) → r < length ts → (m : Message) → List·Memᴰ m (rootChain r) → List·Memᴰ m rows
       unfolding extraRows
-      rootChain-in r h m q = extra-in m (Memᴰ·append-left (concatMap branch (from count 0)) (mem-concatMap rootChain (from (length ts) 0) (mem-from (length ts) 0 r (omega arith) (omega arith)) q))
+      rootChain-in r h m q = extra-in m (Memᴰ·append-left (concatMap branch classes) (mem-concatMap rootChain (from (length ts) 0) (mem-from (length ts) 0 r (omega arith) (omega arith)) q))
 
-      branch-in : (c : ℕ) → c < count → (m : Message) → List·Memᴰ m (branch c) → List·Memᴰ m rows
+      branch-in : (c : ℕ) → List·Memᴰ c classes → (m : Message) → List·Memᴰ m (branch c) → List·Memᴰ m rows
       unfolding extraRows
-      branch-in c h m q = extra-in m (Memᴰ·append-right (concatMap rootChain (from (length ts) 0)) (mem-concatMap branch (from count 0) (mem-from count 0 c (omega arith) (omega arith)) q))
+      branch-in c h m q = extra-in m (Memᴰ·append-right (concatMap rootChain (from (length ts) 0)) (mem-concatMap branch classes h q))
 
       root-in : (c : ℕ) → rootAt c < length ts
       root-in c = root-less (nextType ts) (length ts) (next-less ts accepted) (start c) (start-less c)
 
       -- the chain of a root passes each of its classes
-      atRoot-in : (c : ℕ) → c < count → circling c ≡ true → List·Memᴰ (atRoot c) rows
+      atRoot-in : (c : ℕ) → List·Memᴰ c classes → circling c ≡ true → List·Memᴰ (atRoot c) rows
       atRoot-in c h p =
           let i : indexOf c ≤ sharing (rootAt c) = index-sharing c h p in
           let s : (sharing (rootAt c) - indexOf c) * lap ts most (rootAt c) + laps c ≡ sharing (rootAt c) * lap ts most (rootAt c) = split (sharing (rootAt c)) (indexOf c) (lap ts most (rootAt c)) i in
@@ -198,7 +196,7 @@ module _ (ts : Types) (type variantFor : ℕ → ℕ) (count most top : ℕ) whe
           rootChain-in (rootAt c) (root-in c) (atRoot c)
           (subst (λ (k : ℕ). List·Memᴰ (atRoot c) (chain k (rootAt c) (defaultOf ts (rootAt c)))) s
           (subst (λ (x : ℕ). List·Memᴰ (growFrom ts (laps c) x (defaultOf ts (rootAt c))) (chain ((sharing (rootAt c) - indexOf c) * lap ts most (rootAt c) + laps c) (rootAt c) (defaultOf ts (rootAt c)))) e
-          (chain-mem ((sharing (rootAt c) - indexOf c) * lap ts most (rootAt c)) (laps c) (rootAt c) (defaultOf ts (rootAt c)) (omega (arith, laps-long ts type variantFor count most c)))))
+          (chain-mem ((sharing (rootAt c) - indexOf c) * lap ts most (rootAt c)) (laps c) (rootAt c) (defaultOf ts (rootAt c)) (omega (arith, laps-long ts type variantFor classes most c)))))
         where
           add-mul : (a b l : ℕ) → (a + b) * l ≡ a * l + b * l
           add-mul a b l = omega arith
@@ -210,26 +208,26 @@ module _ (ts : Types) (type variantFor : ℕ → ℕ) (count most top : ℕ) whe
       unfolding closedSteps
       steps-split c =
           grow-add (chosenField ts) (fieldsOf ts) (defaultOf ts) (growingVariant ts) (distanceOf ts (start c)) (laps c) (start c) (defaultOf ts (rootAt c))
-          ∙ ap (λ (x : ℕ). growFrom ts (distanceOf ts (start c)) (start c) (growFrom ts (laps c) x (defaultOf ts (rootAt c)))) (distance-to-root ts type variantFor count most accepted c (start-less c))
+          ∙ ap (λ (x : ℕ). growFrom ts (distanceOf ts (start c)) (start c) (growFrom ts (laps c) x (defaultOf ts (rootAt c)))) (distance-to-root ts type variantFor classes most accepted c (start-less c))
 
       -- what a plan says of the messages on its way and of its own
       abbrev Held : ℕ → Plan → Type 0
       Held c p = ((m : Message) → List·Memᴰ m (branchBy c p) → List·Memᴰ m rows) → ((m : Message) → List·Memᴰ m (branchBy c p) → PartsIn rows m) × PartsIn rows (plannedMessage ts (type c) p)
 
-      held : (c : ℕ) → c < count → Held c (planOf c)
-      held c h = closedPlan-ind ts type variantFor count most top (Held c) c number-case into-case around-case
+      held : (c : ℕ) → List·Memᴰ c classes → Held c (planOf c)
+      held c h = closedPlan-ind ts type variantFor classes most endFor (Held c) c number-case into-case around-case
         where
-          number-case : isNumber ts (type c) ≡ true → Held c (atOnce (pos (top + c)))
-          number-case e f = (λ m q. absurd (List·Memᴰ·not-nil q), number-parts rows (type c) (pos (top + c)))
+          number-case : isNumber ts (type c) ≡ true → Held c (atOnce (endFor c))
+          number-case e f = (λ m q. absurd (List·Memᴰ·not-nil q), number-parts rows (type c) (endFor c))
 
-          into-case : isNumber ts (type c) ≡ false → stepsToNumber ts (start c) < length ts → Held c (into (variantFor c) (stepsToNumber ts (start c)) (pos (top + c)))
+          into-case : isNumber ts (type c) ≡ false → stepsToNumber ts (start c) < length ts → Held c (into (variantFor c) (stepsToNumber ts (start c)) (endFor c))
           into-case e l f = (
             λ m q. both m (List·Memᴰ·append-cases (chain (stepsToNumber ts (start c)) (start c) last) q),
             wrap-parts (type c) (variantFor c) (growFrom ts (stepsToNumber ts (start c)) (start c) last) (chain-first (stepsToNumber ts (start c)) (start c) last above last-in),
           )
             where
               last : Message
-              last = number (iterate (nextType ts) (stepsToNumber ts (start c)) (start c)) (pos (top + c))
+              last = number (iterate (nextType ts) (stepsToNumber ts (start c)) (start c)) (endFor c)
 
               above : (m : Message) → List·Memᴰ m (chain (stepsToNumber ts (start c)) (start c) last) → List·Memᴰ m rows
               above m q = f m (Memᴰ·append-left (last ∷ []) q)
@@ -239,7 +237,7 @@ module _ (ts : Types) (type variantFor : ℕ → ℕ) (count most top : ℕ) whe
 
               both : (m : Message) → List·Memᴰ m (chain (stepsToNumber ts (start c)) (start c) last) ⊎ List·Memᴰ m (last ∷ []) → PartsIn rows m
               both m (inl q) = chain-parts (stepsToNumber ts (start c)) (start c) last above last-in m q
-              both m (inr (List·Memᴰ·head q)) = subst (PartsIn rows) (sym q) (number-parts rows (iterate (nextType ts) (stepsToNumber ts (start c)) (start c)) (pos (top + c)))
+              both m (inr (List·Memᴰ·head q)) = subst (PartsIn rows) (sym q) (number-parts rows (iterate (nextType ts) (stepsToNumber ts (start c)) (start c)) (endFor c))
 
           around-case : isNumber ts (type c) ≡ false → circling c ≡ true → length ts ≤ stepsToNumber ts (start c) → Held c (around (variantFor c) (stepsOf c))
           around-case e p l f = (
@@ -252,66 +250,59 @@ module _ (ts : Types) (type variantFor : ℕ → ℕ) (count most top : ℕ) whe
       unfolding extraRows
       extra-parts m q = go (List·Memᴰ·append-cases (concatMap rootChain (from (length ts) 0)) q)
         where
-          go : List·Memᴰ m (concatMap rootChain (from (length ts) 0)) ⊎ List·Memᴰ m (concatMap branch (from count 0)) → PartsIn rows m
+          go : List·Memᴰ m (concatMap rootChain (from (length ts) 0)) ⊎ List·Memᴰ m (concatMap branch classes) → PartsIn rows m
           go (inl j) =
               mem-concatMap-inv rootChain (PartsIn rows) (from (length ts) 0)
               (λ r k. let h : r < 0 + length ts = from-bounds (length ts) 0 r k .1 in chain-parts (sharing r * lap ts most r) r (defaultOf ts r) (rootChain-in r (omega arith)) (defaults-in r (omega arith))) m j
           go (inr j) =
-              mem-concatMap-inv branch (PartsIn rows) (from count 0)
-              (λ c k. let h : c < 0 + count = from-bounds count 0 c k .1 in held c (omega arith) (branch-in c (omega arith)) .0) m j
+              mem-concatMap-inv branch (PartsIn rows) classes
+              (λ c k. held c k (branch-in c k) .0) m j
 
-      pub planned-parts : (c : ℕ) → c < count → PartsIn rows (plannedMessage ts (type c) (closedPlan ts type variantFor count most top c))
+      pub planned-parts : (c : ℕ) → List·Memᴰ c classes → PartsIn rows (plannedMessage ts (type c) (closedPlan ts type variantFor classes most endFor c))
       planned-parts c h = held c h (branch-in c h) .1
 
   -- ---- the whole list of rows: the messages of the classes, and what they are made of
   module _ (kind : ℕ → Kind) (val : ℕ → Message) where
     pub record Valued : Type 0 where
-      pub node-val : (c v : ℕ) (ps : List ℕ) → c < count → kind c ≡ node v ps → val c ≡ made (type c) v (toParts (map val ps))
-      pub node-in : (c v : ℕ) (ps : List ℕ) → c < count → kind c ≡ node v ps → All (λ p. p < count) ps
-      pub const-val : (c : ℕ) (z : ℤ) → c < count → kind c ≡ const z → val c ≡ number (type c) z
-      pub free-val : (c : ℕ) → c < count → kind c ≡ free → val c ≡ plannedMessage ts (type c) (closedPlan ts type variantFor count most top c)
+      pub node-val : (c v : ℕ) (ps : List ℕ) → List·Memᴰ c classes → kind c ≡ node v ps → val c ≡ made (type c) v (toParts (map val ps))
+      pub node-in : (c v : ℕ) (ps : List ℕ) → List·Memᴰ c classes → kind c ≡ node v ps → All (λ p. List·Memᴰ p classes) ps
+      pub const-val : (c : ℕ) (z : ℤ) → List·Memᴰ c classes → kind c ≡ const z → val c ≡ number (type c) z
+      pub free-val : (c : ℕ) → List·Memᴰ c classes → kind c ≡ free → val c ≡ plannedMessage ts (type c) (closedPlan ts type variantFor classes most endFor c)
       -- each default is the message of a class
-      pub default-val : (t : ℕ) → t < length ts → (c : ℕ) × (c < count) × (val c ≡ defaultOf ts t)
+      pub default-val : (t : ℕ) → t < length ts → (c : ℕ) × (List·Memᴰ c classes) × (val c ≡ defaultOf ts t)
 
     unfoldable pub allRows : List Message
-    allRows = map val (from count 0) ++ extraRows
+    allRows = map val classes ++ extraRows
 
-    pub class-in : (c : ℕ) → c < count → List·Memᴰ (val c) allRows
+    pub class-in : (c : ℕ) → List·Memᴰ c classes → List·Memᴰ (val c) allRows
     unfolding allRows
-    class-in c h = Memᴰ·append-left extraRows (mem-map val (mem-from count 0 c (omega arith) (omega arith)))
+    class-in c h = Memᴰ·append-left extraRows (mem-map val h)
 
     module _ (accepted : TypesAccepted ts) (some-type : 0 < length ts) where
       pub rows-parts : Valued → (m : Message) → List·Memᴰ m allRows → PartsIn allRows m
       unfolding allRows
-      rows-parts ok m q = go (List·Memᴰ·append-cases (map val (from count 0)) q)
+      rows-parts ok m q = go (List·Memᴰ·append-cases (map val classes) q)
         where
           rows : List Message
-          rows = map val (from count 0) ++ extraRows
+          rows = map val classes ++ extraRows
 
           extra-in : (m : Message) → List·Memᴰ m extraRows → List·Memᴰ m rows
-          extra-in m q = Memᴰ·append-right (map val (from count 0)) q
+          extra-in m q = Memᴰ·append-right (map val classes) q
 
           default-in : (t : ℕ) → t < length ts → List·Memᴰ (defaultOf ts t) rows
           default-in t h = let (c, l, e) = ok .default-val t h in subst (λ (x : Message). List·Memᴰ x rows) e (class-in c l)
 
-          class-parts : (c : ℕ) → c < count → (k : Kind) → kind c ≡ k → PartsIn rows (val c)
+          class-parts : (c : ℕ) → List·Memᴰ c classes → (k : Kind) → kind c ≡ k → PartsIn rows (val c)
           class-parts c h free e = subst (PartsIn rows) (sym (ok .free-val c h e)) (planned-parts accepted some-type rows default-in extra-in c h)
           class-parts c h (const z) e = subst (PartsIn rows) (sym (ok .const-val c z h e)) (number-parts rows (type c) z)
           class-parts c h (node v ps) e =
               subst (PartsIn rows) (sym (ok .node-val c v ps h e))
               (made-parts rows (type c) v (map val ps) (map-inv val (λ p. List·Memᴰ p rows) ps (λ d i. class-in d (all-mem (ok .node-in c v ps h e) d i))))
 
-          go : List·Memᴰ m (map val (from count 0)) ⊎ List·Memᴰ m extraRows → PartsIn rows m
-          go (inl j) = map-inv val (PartsIn rows) (from count 0) (λ c k. class-parts c (omega (arith, from-bounds count 0 c k .1)) (kind c) refl) m j
+          go : List·Memᴰ m (map val classes) ⊎ List·Memᴰ m extraRows → PartsIn rows m
+          go (inl j) = map-inv val (PartsIn rows) classes (λ c k. class-parts c k (kind c) refl) m j
           go (inr j) = extra-parts accepted some-type rows default-in extra-in m j
 
-      pub rows-length : length allRows ≤ count + (count * (most + (length ts - 1) + length ts) + count * length ts)
+      pub rows-length : length allRows ≤ length classes + (length classes * (most + (length ts - 1) + length ts) + length classes * length ts)
       unfolding allRows
-      rows-length = omega (arith, length-append (map val (from count 0)) extraRows, map-from-length val count 0, extra-length accepted some-type)
-
-      -- "Within these limits 4,096 rows always suffice": 78 terms, at most 30 built rows and defaults for a rank, 6 types
-      pub rows-suffice : count ≤ termCount → most ≤ 30 → length ts ≤ 6 → length allRows ≤ 4096
-      rows-suffice hc hm ht =
-          let a : count * (most + (length ts - 1) + length ts) ≤ count * 41 = mul-le-mul-left count (omega arith) in
-          let b : count * length ts ≤ count * 6 = mul-le-mul-left count ht in
-          omega (arith, rows-length)
+      rows-length = omega (arith, length-append (map val classes) extraRows, map-length val classes, extra-length accepted some-type)

@@ -274,6 +274,10 @@ module _ {A : Type 0} (f g : A → ℕ) where
       let l′ : f x < g x = subst (λ z. f z < g z) e l in omega (arith, sum-map-le xs (λ z m. h z (List·Memᴰ·tail m)))
   sum-map-lt (x ∷ xs) h y (List·Memᴰ·tail m) l = omega (arith, h x (List·Memᴰ·head refl), sum-map-lt xs (λ z n. h z (List·Memᴰ·tail n)) y m l)
 
+pub sum-map-at : {A : Type 0} (f : A → ℕ) (xs : List A) (x : A) → List·Memᴰ x xs → f x ≤ sum (map f xs)
+sum-map-at f (y ∷ ys) x (List·Memᴰ·head e) = let q : f x ≡ f y = ap f e in omega arith
+sum-map-at f (y ∷ ys) x (List·Memᴰ·tail m) = omega (arith, sum-map-at f ys x m)
+
 -- of a filter's first two elements over a range the second is higher
 pub filter-from-ordered : (p : ℕ → Bool) (n a u w : ℕ) (us : List ℕ) → filter p (from n a) ≡ u ∷ w ∷ us → u < w
 filter-from-ordered p zero a u w us e = absurd (nil≢cons e)

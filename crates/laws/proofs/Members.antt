@@ -58,6 +58,10 @@ module _ {A : Type 0} (p q : A → Bool) where
       go false true f l = omega arith
       go false false f l = l
 
+-- a test that fails somewhere leaves something out
+pub filter-drops : {A : Type 0} (p : A → Bool) (xs : List A) (y : A) → List·Memᴰ y xs → p y ≡ false → length (filter p xs) < length xs
+filter-drops p xs y m e = omega (arith, filter-lt p (λ x. true) xs (λ x k q. refl) y m e refl, filter-most (λ x. true) xs)
+
 -- ---- membership by a test
 
 pub member-of : (x : ℕ) (xs : List ℕ) → List·Memᴰ x xs → member x xs ≡ true

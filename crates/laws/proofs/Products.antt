@@ -38,17 +38,6 @@ module _ {A : Type 0} where
 
   -- ---- counting by tests
 
-  -- a stronger test passes less often
-  pub filter-fewer : (p q : A → Bool) (xs : List A) → ((x : A) → q x ≡ true → p x ≡ true) → length (filter q xs) ≤ length (filter p xs)
-  filter-fewer p q [] h = omega arith
-  filter-fewer p q (x ∷ xs) h = go (p x) (q x) refl refl (filter-fewer p q xs h)
-    where
-      go : (c d : Bool) → p x ≡ c → q x ≡ d → length (filter q xs) ≤ length (filter p xs) → length (consIf d x (filter q xs)) ≤ length (consIf c x (filter p xs))
-      go true true u v ih = omega arith
-      go true false u v ih = omega arith
-      go false true u v ih = let z : true ≡ false = sym (h x v) ∙ u in let y : _≡_ {A = ℕ} 0 1 = cc in absurd (omega arith)
-      go false false u v ih = ih
-
   -- two tests that exclude each other, and imply a third
   pub filter-split : (p q r : A → Bool) (xs : List A) → ((x : A) → q x ≡ true → p x ≡ true) → ((x : A) → r x ≡ true → p x ≡ true) → ((x : A) → q x ≡ true → r x ≡ true → ⊥)
       → length (filter q xs) + length (filter r xs) ≤ length (filter p xs)

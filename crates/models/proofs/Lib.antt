@@ -6,3 +6,5 @@ pub mod FreeClasses
 pub mod Picture
 pub mod Model
 pub mod Messages
+pub mod Drawing
+pub mod OpenModel

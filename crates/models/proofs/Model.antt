@@ -102,7 +102,7 @@ module _ (limits : Limits) (sup : Supported limits) (g : Guard) (ok : WellFormed
           let b : map val (map defaultTerm fs) ≡ ms = fields ps ks in
           cc
 
-  default-value : (t : ℕ) → t < length ts → Need (classOf S (defaultTerm t)) → val (defaultTerm t) ≡ defaultOf ts t
+  pub default-value : (t : ℕ) → t < length ts → Need (classOf S (defaultTerm t)) → val (defaultTerm t) ≡ defaultOf ts t
   default-value t h k = let (m, e) = ok .ready t h in default-message t m e k ∙ ap orNone (sym e)
 
   -- ---- the value of each row is its message

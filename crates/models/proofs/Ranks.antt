@@ -2,7 +2,7 @@
 -- builds whose classes are reached from it. What a part reaches, its class reaches too; and a build of the class itself
 -- is reached from the class but not from the part, since otherwise the class would be a part of itself. So ranks are at
 -- most the number of builds, and a guard has at most as many as rows and types. Assumes nothing.
-use mathlib.Core.Path.{_≡_, refl, ap, sym, _∙_, subst}
+use mathlib.Core.Path.{_≡_, refl, sym, _∙_, subst}
 use mathlib.Core.Bool.{Bool, true, false, cond, not, false≢true}
 use mathlib.Core.List.{List, [], _∷_, List·Memᴰ, List·Memᴰ·head, _++_, map}
 use Prim.Native.Nat.{ℕ, zero, suc, _+_, _≤_, _<_}
@@ -13,7 +13,7 @@ use borrow.Author.Tests.{eqb-true, eqb-false, eq-eqb}
 use mathlib.Core.Option.{Option, none, some}
 use Rattle.laws.specs.All.{All, All.none}
 use Rattle.laws.specs.Lists.{concatMap, filter, from, member, union, when}
-use Rattle.laws.proofs.Lists.{all-map, all-mem, all-of, all-when, mem-concatMap, mem-concatMap-inv, mem-map}
+use Rattle.laws.proofs.Lists.{all-map, all-mem, all-of, all-when, from-length, mem-concatMap, mem-concatMap-inv, mem-map}
 use Rattle.laws.proofs.Members.{filter-lt, filter-most, member-of, missing, missing-falls, missing-none, of-member, union-inv, union-left, union-new, union-right, union-same}
 use Rattle.guard.specs.Closure.{LacksAt, State, alone, buildsAt, classOf, closureOf, readBuild}
 use Rattle.guard.specs.Guard.{Guard, Literal, Row, Row.built, Row.constant, Row.field, Row.variable}
@@ -199,7 +199,3 @@ few-builds g s =
     read-one : (r : Read) (b : Bool) → length (when b (asBuild r ∷ [])) ≤ 1
     read-one r true = omega arith
     read-one r false = omega arith
-
-    from-length : (n a : ℕ) → length (from n a) ≡ n
-    from-length zero a = refl
-    from-length (suc n) a = ap suc (from-length n (suc a))

@@ -1,1 +1,3 @@
 pub mod Satisfiable
+pub mod OpenLeaf
+pub mod Theorems

@@ -13,7 +13,8 @@ use borrow.Author.Tests.{eqb-true, eqb-false, eq-eqb, ne-eqb}
 use Rattle.laws.specs.Lists.{all, filter, from, product}
 use Rattle.laws.proofs.Bools.{and-both, and-left, and-right, by-test, or-left, or-right}
 use Rattle.laws.proofs.Lists.{all-true, filter-is, filter-mem, from-bounds, from-length, map-cong, mem-from}
-use Rattle.laws.proofs.Products.{filter-fewer, filter-split, product-pos, product-split}
+use Rattle.laws.proofs.Members.{filter-le}
+use Rattle.laws.proofs.Products.{filter-split, product-pos, product-split}
 use Rattle.guard.specs.Closure.{LacksAt, SameAt}
 use Rattle.guard.specs.Guard.{Guard, Literal, Literal.equal, Literal.is, Literal.isnt, Literal.unequal}
 use Rattle.guard.specs.Limits.{Limits, Supported, variantLimit}
@@ -84,7 +85,7 @@ left-inv ds v vs i h = go (filter (leaves ds i) (from (suc (length vs)) 0)) refl
 -- a further decision leaves less
 left-fewer : (l : Literal) (ds : List Literal) (vs : List Variant) (i : ℕ) → left (l ∷ ds) vs i ≤ left ds vs i
 left-fewer l ds [] i = omega arith
-left-fewer l ds (v ∷ vs) i = filter-fewer (leaves ds i) (leaves (l ∷ ds) i) (from (suc (length vs)) 0) (λ u e. and-right (permits i u l) (leaves ds i u) e)
+left-fewer l ds (v ∷ vs) i = filter-le (leaves (l ∷ ds) i) (leaves ds i) (from (suc (length vs)) 0) (λ u m e. and-right (permits i u l) (leaves ds i u) e)
 
 -- "is" leaves that variant alone and "isn't" leaves the others, so together no more than before
 left-split : (ds : List Literal) (vs : List Variant) (i v : ℕ) → v < length vs → left (is i v ∷ ds) vs i + left (isnt i v ∷ ds) vs i ≤ left ds vs i
