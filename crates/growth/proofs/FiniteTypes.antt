@@ -155,8 +155,8 @@ module _ (ts : Types) where
       fails false q r = r
 
   -- only a type with variants has fields
-  pub has-variant : (t v : ℕ) → 0 < length (fieldsOf ts t v) → v < length (variantsOf ts t)
-  has-variant t v h = go (variantsOf ts t) v h
+  pub variant-inside : (t v : ℕ) → 0 < length (fieldsOf ts t v) → v < length (variantsOf ts t)
+  variant-inside t v h = go (variantsOf ts t) v h
     where
       go : (vs : List Variant) (v : ℕ) → 0 < length (getD vs v []) → v < length vs
       go [] v h = absurd (omega arith)
@@ -164,7 +164,7 @@ module _ (ts : Types) where
       go (x ∷ xs) (suc v) h = omega (arith, go xs v h)
 
   pub no-number : (t v : ℕ) → 0 < length (fieldsOf ts t v) → isNumber ts t ≡ false
-  no-number t v h = ne-eqb (length (variantsOf ts t)) 0 (λ e. omega (arith, has-variant t v h))
+  no-number t v h = ne-eqb (length (variantsOf ts t)) 0 (λ e. omega (arith, variant-inside t v h))
 
   -- question 9: a variant with fields has an infinite one
   pub infinite-field : infiniteFields ts ≡ true → (t v : ℕ) → 0 < length (fieldsOf ts t v) → (p : ℕ) × (p < length (fieldsOf ts t v)) × (infinite (fieldType ts t v p) ≡ true)
@@ -174,7 +174,7 @@ module _ (ts : Types) where
       asked : (eqb (length (fieldsOf ts t v)) 0 || infiniteField ts (fieldsOf ts t v)) ≡ true
       asked =
           all-true-at (λ fs. eqb (length fs) 0 || infiniteField ts fs) (variantsOf ts t) v []
-          (all-true-at (all (λ fs. eqb (length fs) 0 || infiniteField ts fs)) ts t [] q (variant-type-inside t (no-number t v h))) (has-variant t v h)
+          (all-true-at (all (λ fs. eqb (length fs) 0 || infiniteField ts fs)) ts t [] q (variant-type-inside t (no-number t v h))) (variant-inside t v h)
 
       has : (b : Bool) → eqb (length (fieldsOf ts t v)) 0 ≡ b → (b || infiniteField ts (fieldsOf ts t v)) ≡ true → infiniteField ts (fieldsOf ts t v) ≡ true
       has true e r = absurd (omega (arith, eqb-true (length (fieldsOf ts t v)) 0 e))

@@ -23,7 +23,7 @@ use Rattle.guard.specs.Message.{Message, Message.made, Message.number, Parts, t
 use Rattle.guard.specs.Types.{Types, defaultOf, defaults, fieldType, fieldsOf, infiniteFields, isNumber, orNone, variantsOf}
 use Rattle.guard.specs.WellFormed.{WellFormed}
 use Rattle.guard.proofs.DefaultLaws.{Each, Each.each-cons, Each.each-nil, default-belongs, default-ind}
-use Rattle.growth.proofs.FiniteTypes.{has-variant, infinite, infinite-field, infinite-variant}
+use Rattle.growth.proofs.FiniteTypes.{infinite, infinite-field, infinite-variant, variant-inside}
 use Rattle.growth.proofs.Grow.{Growing, chosen, cyclic-growing, end-grow, end-wrap, fill, grow, onward, wrap}
 use Rattle.growth.proofs.Orbit.{distance, iterate, orbit-within, period, root, root-step}
 use Rattle.growth.proofs.Paths.{end, endAt}
@@ -209,7 +209,7 @@ module _ (ts : Types) where
     fill-belongs (f ∷ fs) (suc p) m (more a bs) h b = (defaultOf-belongs f a, fill-belongs fs p m bs (omega arith) b)
 
     pub wrap-belongs : (t v : ℕ) (m : Message) → 0 < length (fieldsOf ts t v) → Belongs ts m (chosenType t v) → Belongs ts (wrapIn t v m) t
-    wrap-belongs t v m h b = (refl, has-variant ts t v h, fill-belongs (fieldsOf ts t v) (chosenField t v) m (accepted .fieldTypes t v) (chosen-inside accepted t v h) b)
+    wrap-belongs t v m h b = (refl, variant-inside ts t v h, fill-belongs (fieldsOf ts t v) (chosenField t v) m (accepted .fieldTypes t v) (chosen-inside accepted t v h) b)
 
     pub grow-belongs : (n t : ℕ) (e : Message) → GrowsBy n t → Belongs ts e (iterate nextType n t) → Belongs ts (growFrom n t e) t
     grow-belongs zero t e g b = b

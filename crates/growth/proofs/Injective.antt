@@ -11,7 +11,7 @@ use lib.IntN.{ℤ}
 use Rattle.laws.specs.All.{All, All.more}
 use Rattle.laws.proofs.Lists.{all-getD, map-length}
 use Rattle.guard.specs.Message.{Message, Message.made, Message.number, partAt, toParts}
-use Rattle.guard.proofs.MessageLaws.{messageSize, partSizes, parts-eq, size-part}
+use Rattle.guard.proofs.MessageLaws.{messageSize, part-map, partSizes, parts-eq, size-part}
 use Rattle.growth.proofs.Paths.{down, next}
 
 -- ---- an open structure: what each class is, and its message
@@ -56,11 +56,6 @@ module _ (at : ℕ → ℕ → ℕ) (fields : ℕ → ℕ → List ℕ) (In : �
       there : val class ≡ down at steps (val c)
       less : (class ≡ c) ⊎ (messageSize (val class) < messageSize (val c))
 
-    part-val : (ps : List ℕ) (k : ℕ) (d : Message) → k < length ps → partAt (toParts (map val ps)) k d ≡ val (getD ps k 0)
-    part-val [] k d h = absurd (omega arith)
-    part-val (p ∷ ps) zero d h = refl
-    part-val (p ∷ ps) (suc k) d h = part-val ps k d (omega arith)
-
     bottom : (n c : ℕ) → rank c < n → In c → Bottom c
     bottom zero c h i = absurd (omega arith)
     bottom (suc n) c h i = go (bottom n) (kind c) refl
@@ -95,13 +90,13 @@ module _ (at : ℕ → ℕ → ℕ) (fields : ℕ → ℕ → List ℕ) (In : �
                 omega (arith, o .inside (type c) v (omega arith))
 
             step : at (type c) v < length (p ∷ ps) → next at (val c) ≡ val (getD (p ∷ ps) (at (type c) v) 0)
-            step f = ap (next at) (o .node-val c v (p ∷ ps) i e) ∙ part-val (p ∷ ps) (at (type c) v) (made (type c) v (toParts (map val (p ∷ ps)))) f
+            step f = ap (next at) (o .node-val c v (p ∷ ps) i e) ∙ part-map val (p ∷ ps) (at (type c) v) (made (type c) v (toParts (map val (p ∷ ps)))) f
 
             shrinks : at (type c) v < length (p ∷ ps) → messageSize (val (getD (p ∷ ps) (at (type c) v) 0)) < messageSize (val c)
             shrinks f =
                 let d : Message = made (type c) v (toParts (map val (p ∷ ps))) in
                 let e1 : messageSize (val c) ≡ suc (partSizes (toParts (map val (p ∷ ps)))) = ap messageSize (o .node-val c v (p ∷ ps) i e) in
-                let e2 : messageSize (partAt (toParts (map val (p ∷ ps))) (at (type c) v) d) ≡ messageSize (val (getD (p ∷ ps) (at (type c) v) 0)) = ap messageSize (part-val (p ∷ ps) (at (type c) v) d f) in
+                let e2 : messageSize (partAt (toParts (map val (p ∷ ps))) (at (type c) v) d) ≡ messageSize (val (getD (p ∷ ps) (at (type c) v) 0)) = ap messageSize (part-map val (p ∷ ps) (at (type c) v) d f) in
                 omega (arith, size-part (map val (p ∷ ps)) (at (type c) v) d (omega (arith, map-length val (p ∷ ps))))
 
             under : {w q : ℕ} → (w ≡ q) ⊎ (messageSize (val w) < messageSize (val q)) → messageSize (val q) < messageSize (val c) → messageSize (val w) < messageSize (val c)

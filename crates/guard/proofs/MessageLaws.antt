@@ -78,6 +78,12 @@ module _ (ts : Types) where
   parts-from (part m ms) [] b = absurd b
   parts-from (part m ms) (f ∷ fs) b = ap (part m) (ap toParts (map-from-suc (λ p. partAt (part m ms) p noMessage) (length fs) 0) ∙ parts-from ms fs (b .1))
 
+-- a part of mapped parts
+pub part-map : (f : ℕ → Message) (ps : List ℕ) (k : ℕ) (d : Message) → k < length ps → partAt (toParts (map f ps)) k d ≡ f (getD ps k 0)
+part-map f [] k d h = absurd (omega arith)
+part-map f (p ∷ ps) zero d h = refl
+part-map f (p ∷ ps) (suc k) d h = part-map f ps k d (omega arith)
+
 -- ---- variants
 
 pub variant-or-not : (m : Message) (v : ℕ) → IsVariant m v ⊎ (¬ IsVariant m v)

@@ -1,7 +1,7 @@
 -- The table of a guard, element by element: what is in it, and what everything in it satisfies. Assumes nothing.
 use mathlib.Core.Path.{_≡_, refl, ap, sym, _∙_, subst}
 use mathlib.Core.Bool.{Bool, true, false, not}
-use mathlib.Core.List.{List, [], _∷_, List·Memᴰ, List·Memᴰ·head, List·Memᴰ·tail, _++_, map, List·Memᴰ·append-cases, Memᴰ·append-left, Memᴰ·append-right}
+use mathlib.Core.List.{List, [], _∷_, List·Memᴰ, List·Memᴰ·head, List·Memᴰ·tail, _++_, map, List·Memᴰ·append-cases, Memᴰ·append-left, Memᴰ·append-right, nil≢cons}
 use mathlib.Core.Logic.{_⊎_, inl, inr}
 use Prim.Native.Nat.{ℕ, zero, suc, _+_, _≤_, _<_}
 use native.Mathlib.Omega.{arith}
@@ -198,6 +198,16 @@ pub fieldless-is : (n v : ℕ) (vs : List Variant) → List·Memᴰ v (fieldless
 fieldless-is n v ([] ∷ vs) (List·Memᴰ·head e) = (0, omega arith, omega arith, refl)
 fieldless-is n v ([] ∷ vs) (List·Memᴰ·tail m) = let (k, e, h, q) = fieldless-is (suc n) v vs m in (suc k, omega arith, omega arith, q)
 fieldless-is n v ((f ∷ fs) ∷ vs) m = let (k, e, h, q) = fieldless-is (suc n) v vs m in (suc k, omega arith, omega arith, q)
+
+pub fieldless-has : (n k : ℕ) (vs : List Variant) → k < length vs → getD vs k [] ≡ [] → List·Memᴰ (n + k) (fieldless n vs)
+fieldless-has n k [] h e = absurd (omega arith)
+fieldless-has n zero ([] ∷ vs) h e = List·Memᴰ·head (add-zero n)
+fieldless-has n zero ((f ∷ fs) ∷ vs) h e = absurd (nil≢cons (sym e))
+fieldless-has n (suc k) (fs ∷ vs) h e = go fs (let q : suc n + k ≡ n + suc k = omega arith in subst (λ (x : ℕ). List·Memᴰ x (fieldless (suc n) vs)) q (fieldless-has (suc n) k vs (omega arith) e))
+  where
+    go : (fs : Variant) → List·Memᴰ (n + suc k) (fieldless (suc n) vs) → List·Memᴰ (n + suc k) (fieldless n (fs ∷ vs))
+    go [] m = List·Memᴰ·tail m
+    go (f ∷ fs) m = m
 
 field-terms-small : (r p : ℕ) (fs : Variant) (q s : ℕ) → r < termCount → s + length fs ≤ termCount → All (λ x. x < termCount) (fieldTerms r p q s fs)
 field-terms-small r p [] q s h l = none

@@ -5,15 +5,15 @@
 -- look alike are one class. Assumes nothing.
 use mathlib.Core.Path.{_≡_, refl, ap, sym, _∙_, subst}
 use mathlib.Core.Bool.{Bool, true, false, false≢true, _&&_}
-use mathlib.Core.List.{List, [], _∷_, List·Memᴰ, nil≢cons, map, List·Memᴰ·head, List·Memᴰ·tail}
+use mathlib.Core.List.{List, [], _∷_, List·Memᴰ, nil≢cons, map}
 use mathlib.Core.Logic.{_⊎_, inl, inr}
-use Prim.Native.Nat.{ℕ, _<_, zero, suc, _+_}
+use Prim.Native.Nat.{ℕ, _<_}
 use native.Mathlib.Omega.{arith}
 use lib.Dec.{eqb}
-use lib.ListN.{length, getD}
+use lib.ListN.{length}
 use borrow.Author.Tests.{eqb-true, eqb-false, eq-eqb, ne-eqb}
 use lib.IntN.{ℤ}
-use native.Mathlib.Nat.{add-zero, zero-add}
+use native.Mathlib.Nat.{zero-add}
 use borrow.Fn.PlainCycle.{falls}
 use Rattle.laws.specs.All.{All, All.none}
 use Rattle.laws.specs.Lists.{any}
@@ -25,10 +25,10 @@ use Rattle.guard.specs.Guard.{Literal}
 use Rattle.guard.specs.Limits.{variantLimit}
 use Rattle.guard.specs.Rules.{AllSame, Alone, BuiltAt, BuiltAt.read, BuiltAt.row, ObeysLiterals, ObeysRules, Relation}
 use Rattle.guard.specs.Terms.{Build, Const, Table, Term, fieldless}
-use Rattle.guard.specs.Types.{Variant, fieldType, fieldsOf, isNumber, variantsOf}
+use Rattle.guard.specs.Types.{fieldType, fieldsOf, isNumber, variantsOf}
 use Rattle.guard.proofs.ClosureBelow.{closure-sound}
 use Rattle.guard.proofs.LeastClosure.{closure-least}
-use Rattle.guard.proofs.TableLaws.{fieldless-is}
+use Rattle.guard.proofs.TableLaws.{fieldless-has, fieldless-is}
 use Rattle.growth.proofs.Injective.{Kind, Kind.const, Kind.free, Kind.node}
 use Rattle.models.proofs.Nodes.{OpenNode, TypedNode, alone-held, alone-test, build-of, built-alone, built-of, built-small, built-term, constants-agree, label-held, test-alone}
 use Rattle.models.proofs.Ranks.{rank}
@@ -43,17 +43,6 @@ node≢free e = let y : _≡_ {A = ℕ} 0 1 = cc in omega arith
 
 pub const≢free : {z : ℤ} → const z ≡ free → ⊥
 const≢free e = let y : _≡_ {A = ℕ} 0 1 = cc in omega arith
-
--- a variant with no fields is a fieldless variant
-pub fieldless-has : (n k : ℕ) (vs : List Variant) → k < length vs → getD vs k [] ≡ [] → List·Memᴰ (n + k) (fieldless n vs)
-fieldless-has n k [] h e = absurd (omega arith)
-fieldless-has n zero ([] ∷ vs) h e = List·Memᴰ·head (add-zero n)
-fieldless-has n zero ((f ∷ fs) ∷ vs) h e = absurd (nil≢cons (sym e))
-fieldless-has n (suc k) (fs ∷ vs) h e = go fs (let q : suc n + k ≡ n + suc k = omega arith in subst (λ (x : ℕ). List·Memᴰ x (fieldless (suc n) vs)) q (fieldless-has (suc n) k vs (omega arith) e))
-  where
-    go : (fs : Variant) → List·Memᴰ (n + suc k) (fieldless (suc n) vs) → List·Memᴰ (n + suc k) (fieldless n (fs ∷ vs))
-    go [] m = List·Memᴰ·tail m
-    go (f ∷ fs) m = m
 
 module _ (t : Table) (ls : List Literal) (type : ℕ → ℕ) (n : TypedNode t ls type) (o : OpenNode t ls) where
   abbrev S : State

@@ -23,8 +23,9 @@ use Rattle.guard.specs.Node.{variantsLeft}
 use Rattle.guard.specs.Terms.{Table, Term, fieldless}
 use Rattle.guard.specs.Types.{fieldsOf, isNumber, variantsOf}
 use Rattle.guard.proofs.LeastClosure.{closure-least}
+use Rattle.guard.proofs.TableLaws.{fieldless-has}
 use Rattle.growth.proofs.Injective.{Kind, Kind.free}
-use Rattle.models.proofs.Classes.{IsClass, Reason, Reason.built, Reason.constant, Reason.nullary, Reason.unfixed, const≢free, fieldless-has, kindOf, node≢free, reason, term-type, type-at}
+use Rattle.models.proofs.Classes.{IsClass, Reason, Reason.built, Reason.constant, Reason.nullary, Reason.unfixed, const≢free, kindOf, node≢free, reason, term-type, type-at}
 use Rattle.models.proofs.Nodes.{OpenNode, TypedNode, alone-held, label-held}
 
 module _ (t : Table) (ls : List Literal) (type : ℕ → ℕ) (n : TypedNode t ls type) (o : OpenNode t ls) where

@@ -1,9 +1,9 @@
 -- The messages of all classes of an open node from those of its free classes. Ranks fall from a node to its parts, so
 -- recursion as deep as the highest rank reaches all parts, and going deeper changes nothing; hence the messages meet the
--- local equations of `Solution`. Where the messages of the free classes are as asked, the guard holds. Assumes nothing.
+-- local equations of `Solution`. Assumes nothing.
 use mathlib.Core.Path.{_≡_, refl, ap, sym, _∙_, subst}
 use mathlib.Core.List.{List, List·Memᴰ, map}
-use Prim.Native.Nat.{ℕ, zero, suc, _+_, _≤_, _<_}
+use Prim.Native.Nat.{ℕ, zero, suc, _≤_, _<_}
 use native.Mathlib.Omega.{arith}
 use lib.ListN.{length}
 use lib.IntN.{ℤ}
@@ -11,22 +11,18 @@ use Rattle.laws.specs.All.{All}
 use Rattle.laws.proofs.Bits.{below}
 use Rattle.laws.proofs.Lists.{all-mem, map-cong}
 use Rattle.guard.specs.Closure.{LacksAt, State, buildsAt, classOf, closureOf}
-use Rattle.guard.specs.Guard.{Guard, Literal}
-use Rattle.guard.specs.Limits.{Limits, Supported}
-use Rattle.guard.specs.Meaning.{Belongs, Holds, IsVariant}
+use Rattle.guard.specs.Guard.{Literal}
+use Rattle.guard.specs.Meaning.{Belongs, IsVariant}
 use Rattle.guard.specs.Message.{Message, Message.made, Message.number, noMessage, toParts}
 use Rattle.guard.specs.Rules.{BuiltAt}
-use Rattle.guard.specs.Terms.{Build, Table, Term, tableOf}
+use Rattle.guard.specs.Terms.{Build, Table, Term}
 use Rattle.guard.specs.Types.{fieldsOf}
-use Rattle.guard.specs.WellFormed.{WellFormed}
 use Rattle.growth.proofs.Injective.{Kind, Kind.const, Kind.free, Kind.node, Leaf}
 use Rattle.growth.proofs.Paths.{down}
 use Rattle.models.proofs.Classes.{NeededClass, kindOf, node-falls}
-use Rattle.models.proofs.Model.{model}
-use Rattle.models.proofs.Nodes.{NodeOf, OpenNode, TypedNode, not-inside, typed-node}
-use Rattle.models.proofs.Picture.{Solution, picture}
-use Rattle.models.proofs.Ranks.{few-builds, rank, rank-falls, rank-low}
-use Rattle.models.proofs.TypedTable.{termType}
+use Rattle.models.proofs.Nodes.{OpenNode, TypedNode, not-inside}
+use Rattle.models.proofs.Picture.{Solution}
+use Rattle.models.proofs.Ranks.{rank, rank-falls, rank-low}
 
 module _ (t : Table) (ls : List Literal) (type : ℕ → ℕ) (n : TypedNode t ls type) (o : OpenNode t ls) where
   abbrev S : State
@@ -115,23 +111,3 @@ module _ (t : Table) (ls : List Literal) (type : ℕ → ℕ) (n : TypedNode t l
           freeHeld = λ x m nd e v h. f .held x m nd e v (subst (λ (w : Message). IsVariant w v) (free-message (cls (x .term)) e) h);
           apart = f .apart;
         }
-
--- ---- an open node of a guard has a model
-
-module _ (limits : Limits) (sup : Supported limits) (g : Guard) (ok : WellFormed limits g) (ls : List Literal) (nd : NodeOf g ls) (o : OpenNode (tableOf g) ls) (freeMessage : ℕ → Message) where
-  abbrev typedNode : TypedNode (tableOf g) ls (termType g)
-  typedNode = typed-node limits sup g ok ls nd
-
-  -- a message for each term
-  abbrev pub termMessage : ℕ → Message
-  termMessage i = classMessage (tableOf g) ls (termType g) (typed-node limits sup g ok ls nd) o freeMessage (classOf (closureOf (tableOf g) ls) i)
-
-  pub ranks-few : (c : ℕ) → classRank (tableOf g) ls (termType g) typedNode o c ≤ limits .terms + limits .types
-  ranks-few c = omega (arith, low (tableOf g) ls (termType g) typedNode o c, few-builds g (closureOf (tableOf g) ls), ok .termCount, ok .typeCount)
-
-  pub open-model : (Need : ℕ → Type 0) (at : ℕ → ℕ → ℕ) → ((i : ℕ) → i < length (g .rows) → Need (classOf (closureOf (tableOf g) ls) i))
-      → FreeMessages (tableOf g) ls (termType g) typedNode o freeMessage Need at → Holds g termMessage
-  open-model Need at needed f =
-      model limits sup g ok ls nd o Need needed termMessage
-      (picture (tableOf g) ls (termType g) typedNode o Need at (classMessage (tableOf g) ls (termType g) typedNode o freeMessage) (classRank (tableOf g) ls (termType g) typedNode o) (highest (tableOf g) ls (termType g) typedNode o)
-      (solution (tableOf g) ls (termType g) typedNode o freeMessage Need at f)) termMessage (λ i h. refl)

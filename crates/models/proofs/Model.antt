@@ -4,7 +4,7 @@
 -- it lacks the variant, and the row is in the default's class, whose message is the default by induction over how
 -- defaults arise. An equality joins its terms in one class, and an inequality parts two of one type. Assumes nothing.
 use mathlib.Core.Path.{_≡_, refl, ap, sym, _∙_, subst}
-use mathlib.Core.Bool.{Bool, true, false, cond, false≢true}
+use mathlib.Core.Bool.{Bool, true, false, cond}
 use mathlib.Core.List.{List, [], _∷_, List·Memᴰ, List·Memᴰ·head, List·Memᴰ·tail, _++_, map}
 use mathlib.Core.Logic.{_⊎_, inl, inr}
 use Prim.Native.Nat.{ℕ, zero, suc, _+_, _<_}
@@ -23,7 +23,7 @@ use Rattle.guard.specs.Closure.{LacksAt, SameAt, State, classOf, closureOf}
 use Rattle.guard.specs.Guard.{Guard, Literal, Literal.equal, Literal.is, Literal.isnt, Literal.unequal, Row, Row.built, Row.constant, Row.field, Row.variable, noRow, rowAt, typeAt, typeOf}
 use Rattle.guard.specs.Limits.{Limits, Supported, variantLimit}
 use Rattle.guard.specs.Meaning.{AllHold, Belongs, Holds, IsVariant, LiteralHolds, readField, valueOf, values, valuesFrom}
-use Rattle.guard.specs.Message.{Message, Message.made, Message.number, noMessage, partAt, toParts}
+use Rattle.guard.specs.Message.{Message, Message.made, noMessage, partAt, toParts}
 use Rattle.guard.specs.Rules.{Alone, BuiltAt, BuiltAt.read, BuiltAt.row, LeastClosure}
 use Rattle.guard.specs.Terms.{asBuild, defaultTerm, fieldTerms, readAt, siblingTerm, tableOf}
 use Rattle.guard.specs.Types.{Types, Variant, absentField, defaultOf, defaults, fieldType, fieldsOf, isNumber, orNone, variantsOf}
@@ -31,6 +31,7 @@ use Rattle.guard.specs.WellFormed.{LiteralFits, RowFits, WellFormed}
 use Rattle.guard.proofs.ClosureBelow.{InRange}
 use Rattle.guard.proofs.DefaultLaws.{Each, Each.each-cons, Each.each-nil, default-ind}
 use Rattle.guard.proofs.LeastClosure.{closure-least}
+use Rattle.guard.proofs.MessageLaws.{has-variant, part-map, read-other}
 use Rattle.guard.proofs.TableLaws.{build-default, build-row, const-default, const-row, defaultBuildOf, defaultConstOf, read-row, table-in-range, term-row}
 use Rattle.models.proofs.Nodes.{NodeOf, OpenNode, read-cases, unequal-apart}
 use Rattle.models.proofs.Picture.{Picture}
@@ -55,20 +56,6 @@ field-length r p (f ∷ fs) q s = go (field-length r p fs (suc q)) (eqb p q)
     go : ((s′ : ℕ) → length (fieldTerms r p (suc q) s′ fs) ≡ length fs) → (b : Bool) → length {A = ℕ} (elim b [ true ↦ r ∷ fieldTerms r p (suc q) s fs | false ↦ s ∷ fieldTerms r p (suc q) (suc s) fs ]) ≡ suc (length fs)
     go ih true = ap suc (ih s)
     go ih false = ap suc (ih (suc s))
-
-part-map : (f : ℕ → Message) (ps : List ℕ) (k : ℕ) (d : Message) → k < length ps → partAt (toParts (map f ps)) k d ≡ f (getD ps k 0)
-part-map f [] k d h = absurd (omega arith)
-part-map f (p ∷ ps) zero d h = refl
-part-map f (p ∷ ps) (suc k) d h = part-map f ps k d (omega arith)
-
-read-other : (ts : Types) (t v p w : ℕ) (m : Message) → IsVariant m w → ¬ (v ≡ w) → readField ts t v p m ≡ absentField ts t v p
-read-other ts t v p w (number u z) i ne = absurd i
-read-other ts t v p w (made u x ms) i ne = ap (λ (b : Bool). cond b (partAt ms p noMessage) (absentField ts t v p)) (ne-eqb v x (λ e. ne (e ∙ i)))
-
--- a message of variant type has a variant
-variant-of-message : (ts : Types) (m : Message) (u : ℕ) → Belongs ts m u → isNumber ts u ≡ false → (v : ℕ) × (v < length (variantsOf ts u)) × IsVariant m v
-variant-of-message ts (number t z) u b e = absurd (false≢true (sym e ∙ b .1))
-variant-of-message ts (made t v ms) u b e = (v, b .1, refl)
 
 -- `Need`: the classes that get messages, among them those of all rows. The assignment gives each row's number the row's message.
 module _ (limits : Limits) (sup : Supported limits) (g : Guard) (ok : WellFormed limits g) (ls : List Literal) (nd : NodeOf g ls) (o : OpenNode (tableOf g) ls)
@@ -111,7 +98,7 @@ module _ (limits : Limits) (sup : Supported limits) (g : Guard) (ok : WellFormed
   variant-of : (i : ℕ) → i < length (g .rows) → isNumber ts (typeAt ts (g .rows) i) ≡ false → (v : ℕ) × (v < variantLimit) × IsVariant (val i) v × (¬ LacksAt S i v)
   unfolding tableOf
   variant-of i h e =
-      let (v, hv, iv) = variant-of-message ts (val i) (typeAt ts (g .rows) i) (pic .belongs _ (term-row g i h) (needed i h)) e in
+      let (v, hv, iv) = has-variant ts (val i) (typeAt ts (g .rows) i) (pic .belongs _ (term-row g i h) (needed i h)) e in
       (v, omega (arith, ok .variantCounts (typeAt ts (g .rows) i)), iv, pic .labels _ (term-row g i h) (needed i h) v iv)
 
   row-value : (i : ℕ) → i < length (g .rows) → (vals : List Message) → ((j : ℕ) → j < i → getD vals j noMessage ≡ val j) → valueOf ts ρ i vals (rowAt (g .rows) i) ≡ val i
@@ -135,7 +122,7 @@ module _ (limits : Limits) (sup : Supported limits) (g : Guard) (ok : WellFormed
           cases (inl k) =
               let (w, hw, iw, nw) = variant-of a (omega (arith, f .0)) number-not in
               let e : SameAt S i (defaultTerm (fieldType ts t v p)) = least .rules .absent (readAt ts i t a v p) m k in
-              read-other ts t v p w (val a) iw (λ q. nw (subst (LacksAt S a) q k))
+              read-other ts t v p (val a) w iw (λ q. nw (subst (LacksAt S a) (sym q) k))
               ∙ sym (default-value (fieldType ts t v p) (all-getD (ok .fieldTypes t v) p 0 (f .3)) (subst Need e (needed i h))) ∙ pic .same (defaultTerm (fieldType ts t v p)) i (sym e)
           cases (inr k) =
               ap (readField ts t v p) (pic .builds (asBuild (readAt ts i t a v p)) (read (readAt ts i t a v p) m k refl) (needed a (omega (arith, f .0))))
