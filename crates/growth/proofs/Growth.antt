@@ -23,7 +23,7 @@ use Rattle.guard.specs.Message.{Message, Message.made, Message.number, Parts, t
 use Rattle.guard.specs.Types.{Types, defaultOf, defaults, fieldType, fieldsOf, infiniteFields, isNumber, orNone, variantsOf}
 use Rattle.guard.specs.WellFormed.{WellFormed}
 use Rattle.guard.proofs.DefaultLaws.{Each, Each.each-cons, Each.each-nil, default-belongs, default-ind}
-use Rattle.growth.proofs.FiniteTypes.{infinite, infinite-field, infinite-variant, variant-inside}
+use Rattle.guard.proofs.FiniteTypes.{infinite, infinite-field, infinite-variant, variant-inside}
 use Rattle.growth.proofs.Grow.{Growing, chosen, cyclic-growing, end-grow, end-wrap, fill, grow, onward, wrap}
 use Rattle.growth.proofs.Orbit.{distance, iterate, orbit-within, period, root, root-step}
 use Rattle.growth.proofs.Paths.{end, endAt}

@@ -12,3 +12,4 @@ pub mod SearchLaws
 pub mod AnswerLaws
 pub mod Claims
 pub mod ShownCase
+pub mod FiniteTypes
