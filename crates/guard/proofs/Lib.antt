@@ -13,3 +13,4 @@ pub mod AnswerLaws
 pub mod Claims
 pub mod ShownCase
 pub mod FiniteTypes
+pub mod Repeats

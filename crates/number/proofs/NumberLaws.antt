@@ -1,0 +1,213 @@
+-- For callers: what the answer of `read_number` or `read_below` says of the parsers of the guard file, from the cursor on.
+-- Where a number is found, the parser accepts it and leaves the bytes from the answer's cursor on, which is past the old
+-- one and in the bytes; where it is refused, the parser refuses with the same question. The parsers `count`, `name` and
+-- `kind` are `below` with a limit and a question. Assumes nothing.
+use mathlib.Core.Path.{_≡_, refl, sym, ap, subst, _∙_}
+use mathlib.Core.Bool.{Bool, true, false, cond}
+use mathlib.Core.List.{List, [], _∷_}
+use Prim.Native.Nat.{ℕ, zero, suc, _+_, _-_, _*_, _≤_, _<_, _%_}
+use native.Mathlib.Omega.{arith}
+use native.Mathlib.Nat.{zero-add, suc-add}
+use lib.Dec.{leb, ltb, leb·suc-suc}
+use lib.ListN.{length, drop, length-drop}
+use borrow.Author.Tests.{le-ltb, lt-ltb, ltb-true}
+use Rattle.guard.specs.Number.{Parsed, Parsed.accepted, Parsed.refused, Parser, _>>_, andThen, ask, return, unsigned}
+use Rattle.guard.specs.File.{count, kind, name}
+use Rattle.guard.proofs.Reading.{Reads, reads-unsigned}
+use Rattle.number.specs.declared.Number.{Number}
+use Rattle.number.specs.Reader.{asNumber, below, belowAt, lastFits, numberAt, refusal}
+use Rattle.number.proofs.Groups.{lastByte, numberFrom, unsigned-is}
+
+-- ---- one number of the definition
+
+other : {A : Type 0} {q v : ℕ} {rest : List ℕ} → Path (Parsed ℕ) (refused q) (accepted v rest) → A
+other e = let z : _≡_ {A = ℕ} 0 1 = cc in absurd (omega arith)
+
+-- a parser leaves so many bytes of those it had, and has read at least one
+record Suffix (bs rest : List ℕ) : Type 0 where
+  used : ℕ
+  some : 0 < used
+  there : used ≤ length bs
+  is : rest ≡ drop used bs
+
+suffix : (k low weight : ℕ) (bs : List ℕ) (v : ℕ) (rest : List ℕ) → numberFrom k low weight bs ≡ accepted v rest → Suffix bs rest
+unfolding numberFrom lastByte
+suffix zero low weight bs v rest e = other e
+suffix (suc k) low weight [] v rest e = other e
+suffix (suc k) low weight (b ∷ bs) v rest e = pick (suffix k (low + b % 128 * weight) (weight * 128) bs v rest) (ltb b 128) e
+  where
+    last : (t : Bool) → (ask 3 t >> return (low + b * weight)) bs ≡ accepted v rest → Suffix (b ∷ bs) rest
+    last true h = let r : rest ≡ bs = cc in record { used = 1; some = omega arith; there = omega arith; is = r }
+    last false h = other h
+
+    pick : (numberFrom k (low + b % 128 * weight) (weight * 128) bs ≡ accepted v rest → Suffix bs rest)
+        → (t : Bool) → cond t (lastByte low weight b bs) (numberFrom k (low + b % 128 * weight) (weight * 128) bs) ≡ accepted v rest
+        → Suffix (b ∷ bs) rest
+    pick ih true h = last (lastFits low weight b) h
+    pick ih false h = let s = ih h in record { used = suc (s .used); some = omega arith; there = omega (arith, s .there); is = s .is }
+
+question : (k low weight : ℕ) (bs : List ℕ) (q : ℕ) → numberFrom k low weight bs ≡ refused q → 0 < q
+unfolding numberFrom lastByte
+question zero low weight bs q e = let z : 3 ≡ q = cc in omega arith
+question (suc k) low weight [] q e = let z : 2 ≡ q = cc in omega arith
+question (suc k) low weight (b ∷ bs) q e = pick (question k (low + b % 128 * weight) (weight * 128) bs q) (ltb b 128) e
+  where
+    last : (t : Bool) → (ask 3 t >> return (low + b * weight)) bs ≡ refused q → 0 < q
+    last true h = other (sym h)
+    last false h = let z : 3 ≡ q = cc in omega arith
+
+    pick : (numberFrom k (low + b % 128 * weight) (weight * 128) bs ≡ refused q → 0 < q)
+        → (t : Bool) → cond t (lastByte low weight b bs) (numberFrom k (low + b % 128 * weight) (weight * 128) bs) ≡ refused q → 0 < q
+    pick ih true h = last (lastFits low weight b) h
+    pick ih false h = ih h
+
+-- a number is refused by a question, never by 0
+pub unsigned-question : (bs : List ℕ) (q : ℕ) → unsigned bs ≡ refused q → 0 < q
+unsigned-question bs q e = question 5 0 1 bs q (sym (unsigned-is bs) ∙ e)
+
+drop-none : (n : ℕ) → _≡_ {A = List ℕ} (drop n []) []
+drop-none zero = refl
+drop-none (suc n) = refl
+
+drop-twice : (i u : ℕ) (l : List ℕ) → drop u (drop i l) ≡ drop (i + u) l
+drop-twice zero u l = rw (zero-add u) refl
+drop-twice (suc i) u [] = drop-none u ∙ sym (drop-none (suc i + u))
+drop-twice (suc i) u (x ∷ l) = drop-twice i u l ∙ sym (rw (suc-add i u) refl)
+
+-- *Cursor law.* A number at `at` leaves the bytes from the next cursor on, past `at` and in the bytes.
+pub record Passed (bytes : List ℕ) (at next value : ℕ) (rest : List ℕ) : Type 0 where
+  pub left : rest ≡ drop next bytes
+  pub forward : at < next
+  pub within : next ≤ length bytes
+  pub fits : value ≤ 4294967295
+
+pub cursor : (bytes : List ℕ) (at v : ℕ) (rest : List ℕ) → unsigned (drop at bytes) ≡ accepted v rest
+    → Passed bytes at (length bytes - length rest) v rest
+unfolding Reads
+cursor bytes at v rest e =
+    let s = suffix 5 0 1 (drop at bytes) v rest (sym (unsigned-is (drop at bytes)) ∙ e) in
+    let r : rest ≡ drop (at + s .used) bytes = s .is ∙ drop-twice at (s .used) bytes in
+    let l : length rest ≡ length bytes - (at + s .used) = ap length r ∙ length-drop (at + s .used) bytes in
+    let d : length (drop at bytes) ≡ length bytes - at = length-drop at bytes in
+    let u : 0 < s .used = s .some in
+    let t : s .used ≤ length (drop at bytes) = s .there in
+    let n : length bytes - length rest ≡ at + s .used = omega arith in
+    record {
+      left = r ∙ ap (λ (k : ℕ). drop k bytes) (sym n);
+      forward = omega arith;
+      within = omega arith;
+      fits = reads-unsigned (drop at bytes) v rest e .2 .0;
+    }
+
+-- ---- the answers of the code
+
+-- the parser accepts the answer's value, which is below the bound, and leaves the bytes from the answer's cursor on
+pub record Found (p : Parser ℕ) (bound : ℕ) (bytes : List ℕ) (at : ℕ) (r : Number) : Type 0 where
+  pub parsed : p (drop at bytes) ≡ accepted (r .value) (drop (r .at) bytes)
+  pub small : r .value < bound
+  pub forward : at < r .at
+  pub within : r .at ≤ length bytes
+
+module _ (bytes : List ℕ) (at : ℕ) (r : Number) (is : r ≡ numberAt bytes at) where
+  pub number-found : r .refused ≡ 0 → Found unsigned 4294967296 bytes at r
+  unfolding numberAt
+  number-found z = go (unsigned (drop at bytes)) refl is
+    where
+      go : (p : Parsed ℕ) → unsigned (drop at bytes) ≡ p → r ≡ asNumber bytes p → Found unsigned 4294967296 bytes at r
+      go (refused q) e f = absurd (omega (arith, unsigned-question (drop at bytes) q e, ap (λ (x : Number). x .refused) f))
+      go (accepted v rest) e f =
+          let c = cursor bytes at v rest e in
+          subst (Found unsigned 4294967296 bytes at) (sym f)
+          (record { parsed = e ∙ ap (accepted v) (c .left); small = omega (arith, c .fits); forward = c .forward; within = c .within })
+
+  pub number-refused : ¬ (r .refused ≡ 0) → unsigned (drop at bytes) ≡ refused (r .refused)
+  unfolding numberAt
+  number-refused n = go (unsigned (drop at bytes)) refl is
+    where
+      go : (p : Parsed ℕ) → unsigned (drop at bytes) ≡ p → r ≡ asNumber bytes p → unsigned (drop at bytes) ≡ refused (r .refused)
+      go (refused q) e f = e ∙ ap refused (sym (ap (λ (x : Number). x .refused) f))
+      go (accepted v rest) e f = absurd (n (ap (λ (x : Number). x .refused) f))
+
+  -- an answer that refuses holds nothing else
+  pub number-refusal : ¬ (r .refused ≡ 0) → r ≡ refusal (r .refused)
+  unfolding numberAt
+  number-refusal n = is ∙ ap (asNumber bytes) (number-refused n)
+
+-- the question at a number that is read
+abbrev limited : ℕ → ℕ → ℕ → Parser ℕ
+limited limit q n = ask q (ltb n limit) >> return n
+
+module _ (bytes : List ℕ) (at limit q : ℕ) (asked : 0 < q) (r : Number) (is : r ≡ belowAt bytes at limit q) where
+  pub below-found : r .refused ≡ 0 → Found (below limit q) limit bytes at r
+  unfolding belowAt
+  below-found z = go (unsigned (drop at bytes)) refl is
+    where
+      yes : (v : ℕ) (rest : List ℕ) → unsigned (drop at bytes) ≡ accepted v rest → (t : Bool) → ltb v limit ≡ t
+          → r ≡ asNumber bytes ((ask q t >> return v) rest) → Found (below limit q) limit bytes at r
+      yes v rest e true t f =
+          let c = cursor bytes at v rest e in
+          subst (Found (below limit q) limit bytes at) (sym f)
+          (record {
+            parsed = ap (andThen (limited limit q)) e ∙ ap (λ (b : Bool). (ask q b >> return v) rest) t ∙ ap (accepted v) (c .left);
+            small = ltb-true v limit t;
+            forward = c .forward;
+            within = c .within;
+          })
+      yes v rest e false t f = absurd (omega (arith, ap (λ (x : Number). x .refused) f))
+
+      go : (p : Parsed ℕ) → unsigned (drop at bytes) ≡ p → r ≡ asNumber bytes (andThen (limited limit q) p) → Found (below limit q) limit bytes at r
+      go (refused q′) e f = absurd (omega (arith, unsigned-question (drop at bytes) q′ e, ap (λ (x : Number). x .refused) f))
+      go (accepted v rest) e f = yes v rest e (ltb v limit) refl f
+
+  pub below-refused : ¬ (r .refused ≡ 0) → below limit q (drop at bytes) ≡ refused (r .refused)
+  unfolding belowAt
+  below-refused n = go (below limit q (drop at bytes)) refl is
+    where
+      go : (p : Parsed ℕ) → below limit q (drop at bytes) ≡ p → r ≡ asNumber bytes p → below limit q (drop at bytes) ≡ refused (r .refused)
+      go (refused q′) e f = e ∙ ap refused (sym (ap (λ (x : Number). x .refused) f))
+      go (accepted v rest) e f = absurd (n (ap (λ (x : Number). x .refused) f))
+
+  pub below-refusal : ¬ (r .refused ≡ 0) → r ≡ refusal (r .refused)
+  unfolding belowAt
+  below-refusal n = is ∙ ap (asNumber bytes) (below-refused n)
+
+-- ---- the parsers of the file
+
+pub count-is : (most : ℕ) (bs : List ℕ) → count most bs ≡ below (suc most) 4 bs
+count-is most bs = go (unsigned bs)
+  where
+    go : (p : Parsed ℕ) → andThen (λ (n : ℕ). ask 4 (leb n most) >> return n) p ≡ andThen (limited (suc most) 4) p
+    go (refused q) = refl
+    go (accepted n rest) = ap (λ (t : Bool). (ask 4 t >> return n) rest) (sym (leb·suc-suc n most))
+
+pub name-is : (many : ℕ) (bs : List ℕ) → name many bs ≡ below many 5 bs
+name-is many bs = refl
+
+pub kind-is : (bs : List ℕ) → kind bs ≡ below 4 6 bs
+kind-is bs = refl
+
+-- ---- how `read_below` asks after `read_number`
+
+module _ (bytes : List ℕ) (at limit q : ℕ) (n : Number) (is : n ≡ numberAt bytes at) where
+  -- the number is there, and not below the limit
+  pub over-limit : n .refused ≡ 0 → limit ≤ n .value → belowAt bytes at limit q ≡ refusal q
+  unfolding belowAt
+  over-limit z h =
+      ap (λ (p : Parsed ℕ). asNumber bytes (andThen (limited limit q) p)) (number-found bytes at n is z .parsed)
+      ∙ ap (λ (t : Bool). asNumber bytes ((ask q t >> return (n .value)) (drop (n .at) bytes))) (le-ltb (n .value) limit h)
+
+  -- it is below the limit
+  pub under-limit : n .refused ≡ 0 → n .value < limit → n ≡ belowAt bytes at limit q
+  unfolding belowAt numberAt
+  under-limit z h =
+      let e = number-found bytes at n is z .parsed in
+      is ∙ ap (asNumber bytes) e
+      ∙ sym (ap (λ (p : Parsed ℕ). asNumber bytes (andThen (limited limit q) p)) e
+      ∙ ap (λ (t : Bool). asNumber bytes ((ask q t >> return (n .value)) (drop (n .at) bytes))) (lt-ltb (n .value) limit h))
+
+  -- it is refused already
+  pub no-number : ¬ (n .refused ≡ 0) → n ≡ belowAt bytes at limit q
+  unfolding belowAt numberAt
+  no-number z =
+      let e = number-refused bytes at n is z in
+      is ∙ ap (asNumber bytes) e ∙ sym (ap (λ (p : Parsed ℕ). asNumber bytes (andThen (limited limit q) p)) e)

@@ -1,0 +1,43 @@
+-- A number at a cursor, in terms of the parsers of the guard file. Assumes nothing: definitions.
+use mathlib.Core.Bool.{Bool, not, _&&_, _||_, cond}
+use mathlib.Core.List.{List}
+use Prim.Native.Nat.{ℕ, _+_, _-_, _*_}
+use lib.Dec.{eqb, leb, ltb}
+use lib.ListN.{length, drop}
+use Rattle.guard.specs.Number.{Parsed, Parsed.accepted, Parsed.refused, Parser, _>>=_, _>>_, ask, return, unsigned}
+use Rattle.number.specs.declared.Number.{Number}
+
+-- the question that refused, and nothing else
+abbrev pub refusal : ℕ → Number
+refusal q = record { refused = q; value = 0; at = 0 }
+
+-- a number whose last byte is before the cursor `next`
+abbrev pub found : ℕ → ℕ → Number
+found value next = record { refused = 0; value = value; at = next }
+
+-- what a parser answers at some place of the bytes, with the cursor after the value in place of the bytes left
+abbrev pub asNumber : List ℕ → Parsed ℕ → Number
+asNumber bytes (refused q) = refusal q
+asNumber bytes (accepted v rest) = found v (length bytes - length rest)
+
+unfoldable pub numberAt : List ℕ → ℕ → Number
+numberAt bytes at = asNumber bytes (unsigned (drop at bytes))
+
+-- a number that has to be below the limit, else the question refuses it
+abbrev pub below : ℕ → ℕ → Parser ℕ
+below limit q = do
+  n ← unsigned
+  ask q (ltb n limit)
+  return n
+
+unfoldable pub belowAt : List ℕ → ℕ → ℕ → ℕ → Number
+belowAt bytes at limit q = asNumber bytes (below limit q (drop at bytes))
+
+-- ---- the last byte
+
+-- the number that `low` and a last byte make is at most 4,294,967,295, and a last byte of 00 stands only alone
+abbrev pub lastFits : ℕ → ℕ → ℕ → Bool
+lastFits low weight byte = leb (low + byte * weight) 4294967295 && (leb weight 1 || not (eqb byte 0))
+
+unfoldable pub lastGroup : ℕ → ℕ → ℕ → ℕ → Number
+lastGroup low weight byte next = cond (lastFits low weight byte) (found (low + byte * weight) next) (refusal 3)
