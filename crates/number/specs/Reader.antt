@@ -1,7 +1,8 @@
 -- A number at a cursor, in terms of the parsers of the guard file. Assumes nothing: definitions.
+use mathlib.Core.Path.{_≡_}
 use mathlib.Core.Bool.{Bool, not, _&&_, _||_, cond}
 use mathlib.Core.List.{List}
-use Prim.Native.Nat.{ℕ, _+_, _-_, _*_}
+use Prim.Native.Nat.{ℕ, _+_, _-_, _*_, _≤_}
 use lib.Dec.{eqb, leb, ltb}
 use lib.ListN.{length, drop}
 use Rattle.guard.specs.Number.{Parsed, Parsed.accepted, Parsed.refused, Parser, _>>=_, _>>_, ask, return, unsigned}
@@ -41,3 +42,11 @@ lastFits low weight byte = leb (low + byte * weight) 4294967295 && (leb weight 1
 
 unfoldable pub lastGroup : ℕ → ℕ → ℕ → ℕ → Number
 lastGroup low weight byte next = cond (lastFits low weight byte) (found (low + byte * weight) next) (refusal 3)
+
+-- ---- answers of readers
+
+-- A reader answers a question's number, or 0 with a value and the cursor after it: what this says of the parser's answer.
+pub record Says {A : Type 0} (bytes : List ℕ) (p : Parsed A) (question at : ℕ) (x : A) : Type 0 where
+  pub accepts : question ≡ 0 → p ≡ accepted x (drop at bytes)
+  pub within : question ≡ 0 → at ≤ length bytes
+  pub refuses : ¬ (question ≡ 0) → p ≡ refused question

@@ -1,9 +1,9 @@
 -- Padded columns: reading an element, and storing the next one. Assumes nothing.
 use mathlib.Core.Path.{_≡_, refl, ap, sym, _∙_}
-use mathlib.Core.List.{List, [], _∷_, _++_, append-assoc}
+use mathlib.Core.List.{List, [], _∷_, _++_, append-assoc, map}
 use Prim.Native.Nat.{ℕ, zero, suc, _+_, _≤_, _<_, _-_}
 use native.Mathlib.Omega.{arith}
-use lib.ListN.{length, getD, set, length-append, replicate, List·getD-eq-default, List·getD-append, length-replicate}
+use lib.ListN.{length, getD, set, length-append, length-map, replicate, List·getD-eq-default, List·getD-append, length-replicate}
 use lib.Dec.{ltb}
 use borrow.Author.Tests.{ltb-true, ltb-false}
 use lib.Seq.{getD-append-add, set-append-seam}
@@ -43,3 +43,15 @@ module _ {A : Type 0} (z : A) where
 
   pub pad-nil : (n : ℕ) → padTo z n [] ≡ replicate n z
   pad-nil n = let e : n - 0 ≡ n = omega arith in ap (λ (k : ℕ). replicate k z) e
+
+  -- a column of one entry for each element: storing the next element's entry
+  module _ {B : Type 0} (f : B → A) where
+    map-last : (ys : List B) (y : B) → map f (ys ++ (y ∷ [])) ≡ map f ys ++ (f y ∷ [])
+    map-last [] y = refl
+    map-last (x ∷ ys) y = ap (λ (l : List A). f x ∷ l) (map-last ys y)
+
+    pub column-set : (n : ℕ) (column : List A) (ys : List B) (y : B) (i : ℕ) (a : A) → column ≡ padTo z n (map f ys) → length ys ≡ i → i < n → a ≡ f y
+        → set column i a ≡ padTo z n (map f (ys ++ (y ∷ [])))
+    column-set n column ys y i a e l h v =
+        ap (λ (c : List A). set c i a) e ∙ ap (λ (k : ℕ). set (padTo z n (map f ys)) k a) (sym (length-map ys f ∙ l)) ∙ pad-set n (map f ys) a (omega (arith, length-map ys f))
+        ∙ ap (padTo z n) (ap (λ (b : A). map f ys ++ (b ∷ [])) v ∙ sym (map-last ys y))

@@ -1,3 +1,4 @@
 pub mod Columns
+pub mod Held
 pub mod Lookups
 pub mod TypesBack

@@ -1,0 +1,181 @@
+-- A literal by its kind and its two numbers; literals one after the other into their columns; the end of the file. Assumes nothing.
+use mathlib.Core.Path.{_≡_, refl, ap, sym, subst, _∙_}
+use mathlib.Core.List.{List, [], _∷_, _++_, map}
+use Prim.Native.Nat.{ℕ, zero, suc, _+_, _-_, _≤_, _<_}
+use native.Mathlib.Omega.{arith}
+use lib.ListN.{length, drop, set, length-append, length-drop}
+use Rattle.guard.specs.Guard.{Literal, Literal.equal}
+use Rattle.guard.specs.File.{count, ended, kind}
+use Rattle.guard.specs.Number.{Parsed, Parsed.accepted, Parsed.refused, Parser, _>>=_, _>>_, andThen, return, times}
+use Rattle.guard.proofs.Repeats.{after, after-none, times-done, times-next, times-stop}
+use Rattle.tables.specs.Layout.{literalKind, literalOther, literalTable, literalTerm, pad}
+use Rattle.tables.proofs.Columns.{column-set}
+use Rattle.number.specs.Reader.{Says, below, belowAt}
+use Rattle.number.specs.declared.Number.{Number}
+use Rattle.number.proofs.NumberLaws.{count-is}
+use Rattle.number.proofs.Answers.{below-says, goes-on, says-accepted, says-refused, stops}
+use Rattle.literalreader.specs.declared.LiteralRead.{LiteralRead}
+use Rattle.literalreader.specs.declared.Pair.{Pair}
+use Rattle.literalreader.specs.LiteralReader.{LiteralSays, PairSays, Two, asLiterals, literalBy, literalsAt, literalsBy, made, noLiterals, numbersBy}
+use Rattle.literalreader.proofs.PairLaws.{two}
+
+-- ---- a literal
+
+made-kind : (k : ℕ) (x : Two) → k < 4 → literalKind (made k x) ≡ k
+made-kind zero x h = refl
+made-kind (suc zero) x h = refl
+made-kind (suc (suc zero)) x h = refl
+made-kind (suc (suc (suc zero))) x h = refl
+made-kind (suc (suc (suc (suc k)))) x h = absurd (omega arith)
+
+made-term : (k : ℕ) (x : Two) → literalTerm (made k x) ≡ x .term
+made-term zero x = refl
+made-term (suc zero) x = refl
+made-term (suc (suc zero)) x = refl
+made-term (suc (suc (suc k))) x = refl
+
+made-other : (k : ℕ) (x : Two) → literalOther (made k x) ≡ x .other
+made-other zero x = refl
+made-other (suc zero) x = refl
+made-other (suc (suc zero)) x = refl
+made-other (suc (suc (suc k))) x = refl
+
+pub literal-refused : (bytes : List ℕ) (p : Parsed Literal) (q : ℕ) (r : LiteralRead) → r .refused ≡ q → ¬ (q ≡ 0) → p ≡ refused q → LiteralSays bytes p r
+literal-refused bytes p q r e n h =
+    record {
+      literal = equal 0 0;
+      says = says-refused bytes p q (r .refused) (r .at) (equal 0 0) e n h;
+      kind = λ z. absurd (n (omega arith));
+      term = λ z. absurd (n (omega arith));
+      other = λ z. absurd (n (omega arith));
+    }
+
+module _ (bytes : List ℕ) (at : ℕ) (counts : List ℕ) (rows : ℕ) (us : List ℕ) (k : Number) (isK : k ≡ belowAt bytes at 4 6) where
+  abbrev numbers : ℕ → Parser Literal
+  numbers i = numbersBy counts rows us i >>= λ x. return (made i x)
+
+  pub kind-stops : ¬ (k .refused ≡ 0) → literalBy counts rows us (drop at bytes) ≡ refused (k .refused)
+  kind-stops = stops numbers bytes (below 4 6 (drop at bytes)) (k .refused) (k .at) (k .value) (below-says bytes at 4 6 (omega arith) k isK)
+
+  module _ (kindRead : k .refused ≡ 0) (p : Pair) (says : PairSays bytes (numbersBy counts rows us (k .value) (drop (k .at) bytes)) p) where
+    at-numbers : literalBy counts rows us (drop at bytes) ≡ numbers (k .value) (drop (k .at) bytes)
+    at-numbers = goes-on numbers bytes (below 4 6 (drop at bytes)) (k .refused) (k .at) (k .value) (below-says bytes at 4 6 (omega arith) k isK) kindRead
+
+    pub numbers-stop : ¬ (p .refused ≡ 0) → literalBy counts rows us (drop at bytes) ≡ refused (p .refused)
+    numbers-stop n = at-numbers ∙ stops (λ x. return (made (k .value) x)) bytes _ (p .refused) (p .at) (two (p .term) (p .other)) says n
+
+    pub literal-read : p .refused ≡ 0 → k .value < 4
+        → LiteralSays bytes (literalBy counts rows us (drop at bytes)) (record { refused = 0; at = p .at; kind = k .value; term = p .term; other = p .other })
+    literal-read z small =
+        let x : Two = two (p .term) (p .other) in
+        record {
+          literal = made (k .value) x;
+          says = says-accepted bytes _ (p .at) (made (k .value) x) (at-numbers ∙ goes-on (λ x. return (made (k .value) x)) bytes _ (p .refused) (p .at) x says z) (says .within z);
+          kind = λ z. sym (made-kind (k .value) x small);
+          term = λ z. sym (made-term (k .value) x);
+          other = λ z. sym (made-other (k .value) x);
+        }
+
+-- ---- the literals
+
+-- So many literals are read from `start` on and stand in the columns; what is left to read comes after them.
+pub record Read (p : Parser Literal) (bytes : List ℕ) (many start : ℕ) (kinds terms others : List ℕ) (at i : ℕ) : Type 0 where
+  pub literals : List Literal
+  pub long : length literals ≡ i
+  pub some : i ≤ many
+  pub within : at ≤ length bytes
+  pub kindColumn : kinds ≡ pad 64 (map literalKind literals)
+  pub termColumn : terms ≡ pad 64 (map literalTerm literals)
+  pub otherColumn : others ≡ pad 64 (map literalOther literals)
+  pub left : after literals (times (many - i) p (drop at bytes)) ≡ times many p (drop start bytes)
+
+module _ (p : Parser Literal) (bytes : List ℕ) (many start : ℕ) where
+  pub read-none : start ≤ length bytes → Read p bytes many start (pad 64 []) (pad 64 []) (pad 64 []) start 0
+  read-none h =
+      record { literals = []; long = refl; some = omega arith; within = h; kindColumn = refl; termColumn = refl; otherColumn = refl; left = let e : many - 0 ≡ many = omega arith in after-none (times (many - 0) p (drop start bytes)) ∙ ap (λ (k : ℕ). times k p (drop start bytes)) e }
+
+  module _ (kinds terms others : List ℕ) (at i : ℕ) (read : Read p bytes many start kinds terms others at i) where
+    module _ (more : i < many) (l : LiteralRead) (says : LiteralSays bytes (p (drop at bytes)) l) where
+      left-next : after (read .literals) (times (suc (many - suc i)) p (drop at bytes)) ≡ times many p (drop start bytes)
+      left-next = let e : suc (many - suc i) ≡ many - i = omega arith in ap (λ (k : ℕ). after (read .literals) (times k p (drop at bytes))) e ∙ read .left
+
+      pub read-stops : ¬ (l .refused ≡ 0) → times many p (drop start bytes) ≡ refused (l .refused)
+      read-stops n = sym left-next ∙ times-stop p (read .literals) (many - suc i) (drop at bytes) (l .refused) (says .says .refuses n)
+
+      pub read-next : l .refused ≡ 0 → many ≤ 64 → Read p bytes many start (set kinds i (l .kind)) (set terms i (l .term)) (set others i (l .other)) (l .at) (i + 1)
+      read-next z room =
+          let x : Literal = says .literal in
+          let e : i + 1 ≡ suc i = omega arith in
+          rw e
+          (record {
+            literals = read .literals ++ (x ∷ []);
+            long = omega (arith, length-append (read .literals) (x ∷ []), read .long);
+            some = more;
+            within = says .says .within z;
+            kindColumn = column-set 0 literalKind 64 kinds (read .literals) x i (l .kind) (read .kindColumn) (read .long) (omega arith) (says .kind z);
+            termColumn = column-set 0 literalTerm 64 terms (read .literals) x i (l .term) (read .termColumn) (read .long) (omega arith) (says .term z);
+            otherColumn = column-set 0 literalOther 64 others (read .literals) x i (l .other) (read .otherColumn) (read .long) (omega arith) (says .other z);
+            left = sym (times-next p (read .literals) (many - suc i) (drop at bytes) x (drop (l .at) bytes) (says .says .accepts z)) ∙ left-next;
+          })
+
+    pub read-all : many ≤ i → times many p (drop start bytes) ≡ accepted (read .literals) (drop at bytes)
+    read-all h =
+        let e : many - i ≡ 0 = omega arith in
+        sym (read .left) ∙ ap (λ (k : ℕ). after (read .literals) (times k p (drop at bytes))) e ∙ times-done p (read .literals) 0 (drop at bytes)
+
+    pub read-table : many ≤ i → record { many = many; kinds = kinds; terms = terms; others = others } ≡ literalTable (read .literals)
+    unfolding literalTable
+    read-table h =
+        let n : many ≡ length (read .literals) = omega (arith, read .long, read .some) in
+        let k = read .kindColumn in
+        let t = read .termColumn in
+        let o = read .otherColumn in
+        cc
+
+-- ---- the count before them, and the end after them
+
+module _ (bytes : List ℕ) (at limit : ℕ) (counts : List ℕ) (rows : ℕ) (us : List ℕ) (n : Number) (isN : n ≡ belowAt bytes at (limit + 1) 4) where
+  abbrev one : Parser Literal
+  one = literalBy counts rows us
+
+  abbrev behind : Parsed (List Literal) → Parsed (List Literal)
+  behind r = andThen (λ ls. ended >> return ls) r
+
+  counted : Says bytes (count limit (drop at bytes)) (n .refused) (n .at) (n .value)
+  counted =
+      let e : limit + 1 ≡ suc limit = omega arith in
+      subst (λ (r : Parsed ℕ). Says bytes r (n .refused) (n .at) (n .value)) (ap (λ (k : ℕ). below k 4 (drop at bytes)) e ∙ sym (count-is limit (drop at bytes)))
+      (below-says bytes at (limit + 1) 4 (omega arith) n isN)
+
+  pub count-stops : ¬ (n .refused ≡ 0) → noLiterals (n .refused) ≡ literalsAt bytes at limit counts rows us
+  unfolding literalsAt asLiterals
+  count-stops h = sym (ap asLiterals (stops (λ l. times l one >>= λ ls. ended >> return ls) bytes _ (n .refused) (n .at) (n .value) counted h))
+
+  module _ (countRead : n .refused ≡ 0) where
+    at-literals : literalsAt bytes at limit counts rows us ≡ asLiterals (behind (times (n .value) one (drop (n .at) bytes)))
+    unfolding literalsAt
+    at-literals = ap asLiterals (goes-on (λ l. times l one >>= λ ls. ended >> return ls) bytes _ (n .refused) (n .at) (n .value) counted countRead)
+
+    pub literals-stop : (q : ℕ) → times (n .value) one (drop (n .at) bytes) ≡ refused q → noLiterals q ≡ literalsAt bytes at limit counts rows us
+    unfolding asLiterals
+    literals-stop q e = sym (at-literals ∙ ap (λ (r : Parsed (List Literal)). asLiterals (behind r)) e)
+
+    module _ (ls : List Literal) (end : ℕ) (all : times (n .value) one (drop (n .at) bytes) ≡ accepted ls (drop end bytes)) where
+      at-end : literalsAt bytes at limit counts rows us ≡ asLiterals ((ended >> return ls) (drop end bytes))
+      at-end = at-literals ∙ ap (λ (r : Parsed (List Literal)). asLiterals (behind r)) all
+
+      pub not-ended : end < length bytes → noLiterals 10 ≡ literalsAt bytes at limit counts rows us
+      unfolding asLiterals
+      not-ended h = sym (at-end ∙ go (drop end bytes) (omega (arith, length-drop end bytes)))
+        where
+          go : (rest : List ℕ) → 0 < length rest → asLiterals ((ended >> return ls) rest) ≡ noLiterals 10
+          go [] h = absurd (omega arith)
+          go (x ∷ xs) h = refl
+
+      pub at-the-end : length bytes ≤ end → record { refused = 0; literals = literalTable ls } ≡ literalsAt bytes at limit counts rows us
+      unfolding asLiterals
+      at-the-end h = sym (at-end ∙ go (drop end bytes) (omega (arith, length-drop end bytes)))
+        where
+          go : (rest : List ℕ) → length rest ≡ 0 → asLiterals ((ended >> return ls) rest) ≡ record { refused = 0; literals = literalTable ls }
+          go [] h = refl
+          go (x ∷ xs) h = absurd (omega arith)
