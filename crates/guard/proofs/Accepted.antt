@@ -13,12 +13,12 @@ use mathlib.Core.Option.{none, some}
 use Rattle.laws.specs.All.{All, All.more, All.none}
 use Rattle.laws.specs.Lists.{all}
 use Rattle.laws.proofs.Bools.{and-left, and-right, by-test}
-use Rattle.laws.proofs.Lists.{all-mem, map-cong, map-from-length}
+use Rattle.laws.proofs.Lists.{all-getD, all-mem, map-cong, map-from-length}
 use Rattle.guard.specs.File.{count, ended, file, kind, literal, literalOf, name, parts, rowOf, rows, termAndVariant, twoTerms, types, variant, variantTerm}
 use Rattle.guard.specs.Guard.{Guard, Literal, Literal.equal, Literal.is, Literal.isnt, Literal.unequal, Row, Row.built, Row.constant, Row.field, Row.variable, noRow, rowAt, typeAt, typeOf}
 use Rattle.guard.specs.Limits.{Limits, Supported, fieldLimit, totalVariantLimit, variantLimit}
 use Rattle.guard.specs.Message.{Message}
-use Rattle.guard.specs.Number.{Parsed.accepted, _>>_, ask, return, times, unfoldSigned, unsigned, width32}
+use Rattle.guard.specs.Number.{Parsed.accepted, _>>=_, _>>_, ask, return, times, unfoldSigned, unsigned, width32}
 use Rattle.guard.specs.Types.{Defaults, Types, Variant, allDefaults, defaultRounds, defaults, fieldsOf, firstDefault, infiniteFields, isNumber, isSome, nextDefault, variantsOf}
 use Rattle.guard.specs.WellFormed.{LiteralFits, RowFits, WellFormed}
 use Rattle.guard.proofs.Reading.{Ends, Reads, ends-bind, fold-unfold, reads-asked, reads-bind, reads-return, reads-times, reads-unsigned, reads-weaken}
@@ -159,7 +159,7 @@ module _ (ts : Types) (rs : List Row) (few : length rs ≤ 24) (names : length t
 
 -- ---- rows after rows
 
-abbrev RowsFit : Types → List Row → Type 0
+abbrev pub RowsFit : Types → List Row → Type 0
 RowsFit ts rs = (i : ℕ) → i < length rs → RowFits ts rs i (rowAt rs i)
 
 module _ (ts : Types) (rs : List Row) (r : Row) where
@@ -287,3 +287,26 @@ accepted-ended limits =
 pub accepted-length : (limits : Limits) → Supported limits → (bytes : List ℕ) (g : Guard) (rest : List ℕ) → file limits bytes ≡ accepted g rest → length bytes ≤ longestFile limits
 unfolding Reads
 accepted-length limits sup bytes g rest e = let (u, l, h) = reads-file limits sup bytes g rest e in omega (arith, l, h .1, ap length (accepted-ended limits bytes g rest e))
+
+-- ---- the rows part alone
+
+module _ (ts : Types) (few : length ts ≤ 6) (variants : (t : ℕ) → length (variantsOf ts t) ≤ variantLimit) (fields : (t v : ℕ) → length (fieldsOf ts t v) ≤ fieldLimit) (limit : ℕ) (supported : limit ≤ 24) where
+  reads-counted : Reads (count limit >>= λ n. rows n ts []) (λ rs u. (length rs ≤ limit) × RowsFit ts rs)
+  reads-counted =
+      reads-bind (count limit) _ (And (λ n. n ≤ limit) 1) (λ rs u. (length rs ≤ limit) × RowsFit ts rs) (reads-count limit (omega arith))
+      (λ n b hn. reads-weaken (rows n ts []) (λ xs u. (length xs ≡ n + 0) × RowsFit ts xs × (u ≤ 7 * n)) (λ rs u. (length rs ≤ limit) × RowsFit ts rs)
+      (reads-rows ts few variants fields n [] (omega (arith, hn .0)) (λ i h. absurd (omega arith))) (λ xs x h. (omega (arith, h .0, hn .0), h .1)))
+
+  pub accepted-rows : (bs : List ℕ) (rs : List Row) (rest : List ℕ) → (count limit >>= λ n. rows n ts []) bs ≡ accepted rs rest → (length rs ≤ limit) × RowsFit ts rs
+  unfolding Reads
+  accepted-rows bs rs rest e = let (u, l, h) = reads-counted bs rs rest e in h
+
+-- rows that fit have types that are there
+pub row-type : (ts : Types) → ((t v : ℕ) → All (λ f. f < length ts) (fieldsOf ts t v)) → (rs : List Row) → RowsFit ts rs → (i : ℕ) → i < length rs → typeAt ts rs i < length ts
+row-type ts typed rs fit i h = go (rowAt rs i) (fit i h)
+  where
+    go : (r : Row) → RowFits ts rs i r → typeOf ts r < length ts
+    go (variable t) g = g
+    go (constant t z) g = g .0
+    go (built t v ps) g = g .0
+    go (field t a v p) g = all-getD (typed t v) p 0 (g .3)

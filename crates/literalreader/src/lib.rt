@@ -174,7 +174,7 @@ fn no_literals(question: u32) -> LiteralsRead
 pub fn read_literals(
     bytes: &[u8],
     at: usize,
-    limit: usize,
+    limit: u32,
     counts: &[u8; 6],
     rows: usize,
     types: &[u8; 24],
@@ -185,7 +185,7 @@ pub fn read_literals(
     requires { ⌜ EachBelow 6 (now types) ⌝ }
     ensures { λ r. ⌜ r ≡ literalsAt (now (bytes .entry)) at limit (now (counts .entry)) rows (now (types .entry)) ⌝ }
 {
-    let n = number::read_below(bytes, at, limit as u32 + 1, 4);
+    let n = number::read_below(bytes, at, limit + 1, 4);
     if n.refused != 0 {
         return no_literals(n.refused);
     }

@@ -4,11 +4,14 @@ use mathlib.Core.Path.{_≡_, refl, ap, sym, _∙_, subst}
 use mathlib.Core.List.{List, [], _∷_, List·Memᴰ, List·Memᴰ·head, List·Memᴰ·tail, _++_, map}
 use Prim.Native.Nat.{ℕ, zero, suc, _+_, _*_, _≤_, _<_}
 use native.Mathlib.Omega.{arith}
-use lib.ListN.{length, getD, take, length-append, List·getD-append, List·getD-map}
+use lib.ListN.{length, getD, take, length-append, List·getD-append, List·getD-map, List·getD-eq-default, length-map}
 use lib.IntN.{pos}
 use lib.Seq.{getD-append-add}
+use lib.Dec.{ltb}
+use borrow.Author.Tests.{ltb-true, ltb-false}
 use Rattle.laws.specs.All.{All, All.more, All.none}
 use Rattle.laws.specs.Lists.{concatMap}
+use Rattle.laws.proofs.Bools.{by-test}
 use Rattle.laws.proofs.Lists.{all-concatMap, all-of}
 use Rattle.guard.specs.Guard.{Row, noRow, rowAt, typeAt, typeOf}
 use Rattle.guard.specs.Types.{Types, Variant, fieldsOf, variantsOf}
@@ -130,3 +133,11 @@ module _ (ts : Types) (rs : List Row) (i : ℕ) (inside : i < length rs) where
   pub row-part-at : (j : ℕ) → All (λ r. length (rowParts r) ≤ 3) rs → j < 3 → getD (rowTable ts rs .parts) (3 * i + j) 0 ≡ getD (rowParts (rowAt rs i)) j 0
   unfolding rowTable
   row-part-at j few l = pad-get 0 72 (3 * i + j) (concatMap (λ r. pad 3 (rowParts r)) rs) ∙ triples-at rowParts rs i j noRow few inside l
+
+-- past the last row too: the default there has type 0, as the column
+pub row-type-anywhere : (ts : Types) (rs : List Row) (i : ℕ) → getD (rowTable ts rs .types) i 0 ≡ typeAt ts rs i
+unfolding rowTable
+row-type-anywhere ts rs i =
+    by-test (ltb i (length rs)) (λ e. row-type-at ts rs i (ltb-true _ _ e))
+    (λ e. pad-get 0 24 i (map (typeOf ts) rs) ∙ List·getD-eq-default (map (typeOf ts) rs) 0 (omega (arith, length-map rs (typeOf ts), ltb-false i (length rs) e))
+    ∙ sym (ap (typeOf ts) (List·getD-eq-default rs noRow (ltb-false i (length rs) e))))

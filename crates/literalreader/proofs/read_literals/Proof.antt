@@ -23,9 +23,6 @@ abbrev μ-loop : tie.MeasureT-loop
 μ-loop bytes at limit counts rows types many kinds₀ terms₀ others₀ cursor₀ i₀ kinds terms others cursor i =
     many - i
 
-cast-read-below : tie.Need-cast-read-below Inv-loop μ-loop
-cast-read-below c = omega arith
-
 add-read-below : tie.Need-add-read-below Inv-loop μ-loop
 add-read-below c = omega arith
 
@@ -122,7 +119,6 @@ read-literals-spec =
     (tie.spec
     Inv-loop
     μ-loop
-    cast-read-below
     add-read-below
     read-below-requires
     no-literals-requires

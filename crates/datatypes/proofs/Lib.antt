@@ -1,0 +1,6 @@
+pub mod Walks
+pub mod FlatTypes
+pub mod FiniteLaws
+pub mod QuestionLaws
+pub mod SettledLaws
+pub mod FactLaws

@@ -1,0 +1,5 @@
+pub mod Tidy
+pub mod Midway
+pub mod Stored
+pub mod Readers
+pub mod TypeReaderLaws

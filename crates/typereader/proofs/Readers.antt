@@ -1,0 +1,341 @@
+-- What each function of the reader goes by: from the answers of its callees to its own answer. Assumes nothing.
+use mathlib.Core.Path.{_≡_, refl, ap, sym, subst, _∙_}
+use mathlib.Core.List.{List, [], _∷_, _++_, append-assoc, append-nil}
+use Prim.Native.Nat.{ℕ, suc, _+_, _*_, _≤_, _<_}
+use native.Mathlib.Omega.{arith}
+use lib.ListN.{length, drop, set, replicate, length-append}
+use Rattle.laws.specs.All.{All}
+use Rattle.guard.specs.File.{name, types, variant}
+use Rattle.guard.specs.Limits.{totalVariantLimit}
+use Rattle.guard.specs.Number.{Parsed, Parsed.accepted, Parsed.refused, Parser, andThen, times}
+use Rattle.guard.specs.Types.{Types, Variant}
+use Rattle.guard.proofs.Repeats.{room}
+use Rattle.tables.specs.Layout.{flat, pad, typeTable}
+use Rattle.number.specs.Reader.{belowAt}
+use Rattle.typereader.specs.TypeReader.{Holds, Stores, asPlace, asSorts, asType, asTypes, asVariant, cursor, noSorts, noType, noTypes, noVariant, oneType, oneTypeAt, sortsAt, storeThree, typesAt, typesPart, variantAt, variantsAt}
+use Rattle.tables.proofs.Columns.{pad-nil, pad-set}
+use Rattle.typereader.proofs.Midway.{Midway, TypesMidway, midway-done, midway-next, midway-start, midway-stop, types-end, types-halt, types-start, types-turn}
+use Rattle.number.proofs.NumberLaws.{below-found, below-refused, count-is}
+use Rattle.typereader.proofs.Stored.{HoldsTypes, holds-more, table-is, types-more, types-none}
+use Rattle.typereader.proofs.Tidy.{Answer, TypeFits, VariantFits, answer-refused, answered, cursor-drop, tidy-below, tidy-times, tidy-type, tidy-variant}
+use Rattle.number.specs.declared.Number.{Number}
+use Rattle.tables.specs.declared.TypeTable.{TypeTable}
+use Rattle.typereader.specs.declared.Sorts.{Sorts}
+use Rattle.typereader.specs.declared.VariantRead.{VariantRead}
+use Rattle.typereader.specs.declared.Place.{Place}
+use Rattle.typereader.specs.declared.TypeRead.{TypeRead}
+use Rattle.typereader.specs.declared.TypesRead.{TypesRead}
+
+-- a number below a limit is small
+pub number-small : (bytes : List ℕ) (at limit q : ℕ) → 0 < q → (n : Number) → n ≡ belowAt bytes at limit q → n .refused ≡ 0 → n .value < limit
+number-small bytes at limit q h n is z = below-found bytes at limit q h n is z .small
+
+-- ---- the types of fields
+module _ (bytes : List ℕ) (at arity many : ℕ) where
+  -- i of them are read, and the column holds them
+  pub record SomeSorts (i next : ℕ) (sorts : List ℕ) : Type 0 where
+    pub xs : List ℕ
+    pub midway : Midway (name many) arity bytes at i next xs
+    pub column : sorts ≡ pad 3 xs
+
+  pub sorts-start : at ≤ length bytes → SomeSorts 0 at (replicate 3 0)
+  sorts-start h = record { xs = []; midway = midway-start (name many) arity bytes at h; column = sym (pad-nil 0 3) }
+
+  module _ (i next : ℕ) (sorts : List ℕ) (some : SomeSorts i next sorts) where
+    pub sorts-next : i < arity → arity ≤ 3 → (n : Number) → n ≡ belowAt bytes next many 5 → n .refused ≡ 0 → SomeSorts (i + 1) (n .at) (set sorts i (n .value))
+    sorts-next h fit n is z =
+        let f = below-found bytes next many 5 (omega arith) n is z in
+        let xs : List ℕ = some .xs in
+        let l : length xs ≡ i = some .midway .count in
+        record {
+          xs = xs ++ (n .value ∷ []);
+          midway = midway-next (name many) arity bytes at i next xs (some .midway) h (n .value) (n .at) (f .parsed) (f .within);
+          column =
+              ap (λ (l : List ℕ). set l i (n .value)) (some .column) ∙ ap (λ (k : ℕ). set (pad 3 xs) k (n .value)) (sym l)
+              ∙ pad-set 0 3 xs (n .value) (omega arith);
+        }
+
+    pub sorts-stop : i < arity → (n : Number) → n ≡ belowAt bytes next many 5 → ¬ (n .refused ≡ 0) → noSorts (n .refused) ≡ sortsAt bytes at arity many
+    unfolding sortsAt
+    sorts-stop h n is z =
+        sym (ap (asSorts bytes) (midway-stop (name many) arity bytes at i next (some .xs) (some .midway) h (n .refused) (below-refused bytes next many 5 (omega arith) n is z)))
+
+    pub sorts-done : arity ≤ i → _≡_ {A = Sorts} (record { refused = 0; at = next; sorts = sorts }) (sortsAt bytes at arity many)
+    unfolding sortsAt
+    sorts-done h =
+        let e : next ≡ cursor bytes (drop next bytes) = sym (cursor-drop bytes next (some .midway .within)) in
+        let c : sorts ≡ pad 3 (some .xs) = some .column in
+        let made : _≡_ {A = Sorts} (record { refused = 0; at = next; sorts = sorts }) (asSorts bytes (accepted (some .xs) (drop next bytes))) = cc in
+        made ∙ sym (ap (asSorts bytes) (midway-done (name many) arity bytes at i next (some .xs) (some .midway) h))
+
+-- what reading them says
+module _ (bytes : List ℕ) (at arity many : ℕ) (inside : at ≤ length bytes) (f : Sorts) (is : f ≡ sortsAt bytes at arity many) where
+  pub sorts-found : f .refused ≡ 0 → Answer (times arity (name many)) (λ xs. (length xs ≡ arity) × All (λ i. i < many) xs) bytes at (asSorts bytes) (f .at) f
+  unfolding sortsAt
+  sorts-found z =
+      answered (times arity (name many)) (λ xs. (length xs ≡ arity) × All (λ i. i < many) xs) (tidy-times arity (name many) (λ i. i < many) (tidy-below many 5 (omega arith)))
+      bytes at inside (asSorts bytes) (λ x. x .at) (λ x. x .refused) (λ q. refl) (λ a rest. (refl, refl)) f is z
+
+  pub sorts-refused : ¬ (f .refused ≡ 0) → times arity (name many) (drop at bytes) ≡ refused (f .refused)
+  unfolding sortsAt
+  sorts-refused z =
+      answer-refused (times arity (name many)) (λ xs. (length xs ≡ arity) × All (λ i. i < many) xs) (tidy-times arity (name many) (λ i. i < many) (tidy-below many 5 (omega arith)))
+      bytes at inside (asSorts bytes) (λ x. x .at) (λ x. x .refused) (λ q. refl) (λ a rest. (refl, refl)) f is z
+
+-- ---- a variant
+
+pub fields-inside : (bytes : List ℕ) (at : ℕ) (n : Number) → n ≡ belowAt bytes at 4 4 → n .refused ≡ 0 → (n .value ≤ 3) × (n .at ≤ length bytes)
+fields-inside bytes at n counted z = let f = below-found bytes at 4 4 (omega arith) n counted z in (omega (arith, f .small), f .within)
+
+module _ (bytes : List ℕ) (at many : ℕ) (n : Number) (counted : n ≡ belowAt bytes at 4 4) where
+  abbrev fromCount : Parsed ℕ → Parsed Variant
+  fromCount r = andThen (λ f. times f (name many)) r
+
+  pub variant-stop : ¬ (n .refused ≡ 0) → noVariant (n .refused) ≡ variantAt bytes at many
+  unfolding variantAt
+  variant-stop z = sym (ap (λ (r : Parsed ℕ). asVariant bytes (fromCount r)) (count-is 3 (drop at bytes) ∙ below-refused bytes at 4 4 (omega arith) n counted z))
+
+  module _ (z : n .refused ≡ 0) where
+    from-fields : variant many (drop at bytes) ≡ times (n .value) (name many) (drop (n .at) bytes)
+    from-fields = ap fromCount (count-is 3 (drop at bytes) ∙ below-found bytes at 4 4 (omega arith) n counted z .parsed)
+
+    module _ (f : Sorts) (is : f ≡ sortsAt bytes (n .at) (n .value) many) where
+      pub variant-stop-fields : ¬ (f .refused ≡ 0) → noVariant (f .refused) ≡ variantAt bytes at many
+      unfolding variantAt
+      variant-stop-fields y = sym (ap (asVariant bytes) (from-fields ∙ sorts-refused bytes (n .at) (n .value) many (fields-inside bytes at n counted z .1) f is y))
+
+      pub variant-done : f .refused ≡ 0 → _≡_ {A = VariantRead} (record { refused = 0; at = f .at; arity = n .value; sorts = f .sorts }) (variantAt bytes at many)
+      unfolding variantAt
+      variant-done y =
+          let a = sorts-found bytes (n .at) (n .value) many (fields-inside bytes at n counted z .1) f is y in
+          let p : f .at ≡ cursor bytes (drop (f .at) bytes) = ap (λ (x : Sorts). x .at) (a .is) in
+          let s : f .sorts ≡ pad 3 (a .value) = ap (λ (x : Sorts). x .sorts) (a .is) in
+          let l : n .value ≡ length (a .value) = sym (a .good .0) in
+          let r : _≡_ {A = VariantRead} (record { refused = 0; at = f .at; arity = n .value; sorts = f .sorts }) (asVariant bytes (accepted (a .value) (drop (f .at) bytes))) = cc in
+          r ∙ sym (ap (asVariant bytes) (from-fields ∙ a .parsed))
+
+module _ (bytes : List ℕ) (at many : ℕ) (inside : at ≤ length bytes) (f : VariantRead) (is : f ≡ variantAt bytes at many) where
+  variant-found : f .refused ≡ 0 → Answer (variant many) (VariantFits many) bytes at (asVariant bytes) (f .at) f
+  unfolding variantAt
+  variant-found z = answered (variant many) (VariantFits many) (tidy-variant many) bytes at inside (asVariant bytes) (λ x. x .at) (λ x. x .refused) (λ q. refl) (λ a rest. (refl, refl)) f is z
+
+  variant-refused : ¬ (f .refused ≡ 0) → variant many (drop at bytes) ≡ refused (f .refused)
+  unfolding variantAt
+  variant-refused z = answer-refused (variant many) (VariantFits many) (tidy-variant many) bytes at inside (asVariant bytes) (λ x. x .at) (λ x. x .refused) (λ q. refl) (λ a rest. (refl, refl)) f is z
+
+-- ---- variants
+
+abbrev placed : ℕ → Place
+placed k = record { refused = 0; at = k }
+
+same-value : {A : Type 0} {x y : A} {r : Parsed A} {rest rest′ : List ℕ} → r ≡ accepted x rest → r ≡ accepted y rest′ → x ≡ y
+same-value p q = cc
+
+-- after a refusal the columns may hold anything
+stores-nothing : (p : Parser (List Variant)) (bs : List ℕ) (q w : ℕ) (arities sorts arities′ sorts′ : List ℕ) → p bs ≡ refused q → Stores p bs w arities sorts arities′ sorts′
+stores-nothing p bs q w arities sorts arities′ sorts′ e =
+    record { stored = λ ws vs rest l h f. (let g : _≡_ {A = Parsed (List Variant)} (refused q) (accepted vs rest) = sym e ∙ f in let z : _≡_ {A = ℕ} 0 1 = cc in absurd (omega arith)) }
+
+module _ (bytes : List ℕ) (at n many w : ℕ) (arities₀ sorts₀ : List ℕ) where
+  -- i of them are read, and the columns hold them behind those that were there
+  pub record SomeVariants (i next : ℕ) (arities sorts : List ℕ) : Type 0 where
+    pub vs : List Variant
+    pub midway : Midway (variant many) n bytes at i next vs
+    pub held : (ws : List Variant) → w ≡ length ws → Holds ws arities₀ sorts₀ → Holds (ws ++ vs) arities sorts
+
+  pub variants-start : at ≤ length bytes → SomeVariants 0 at arities₀ sorts₀
+  variants-start h =
+      record {
+        vs = [];
+        midway = midway-start (variant many) n bytes at h;
+        held = λ ws l g. subst (λ (x : List Variant). Holds x arities₀ sorts₀) (sym (append-nil ws)) g;
+      }
+
+  module _ (i next : ℕ) (arities sorts : List ℕ) (some : SomeVariants i next arities sorts) where
+    pub variants-next : i < n → w + n ≤ 48 → (r : VariantRead) → r ≡ variantAt bytes next many → r .refused ≡ 0 → (arities′ sorts′ : List ℕ)
+        → arities′ ≡ set arities (w + i) (r .arity) → sorts′ ≡ storeThree sorts (3 * (w + i)) (r .sorts) → SomeVariants (i + 1) (r .at) arities′ sorts′
+    variants-next h fit r is z arities′ sorts′ ea es =
+        let a = variant-found bytes next many (some .midway .within) r is z in
+        let fs : Variant = a .value in
+        let ra : r .arity ≡ length fs = ap (λ (x : VariantRead). x .arity) (a .is) in
+        let rs : r .sorts ≡ pad 3 fs = ap (λ (x : VariantRead). x .sorts) (a .is) in
+        let ea′ : set arities (w + i) (length fs) ≡ arities′ = sym (ea ∙ ap (set arities (w + i)) ra) in
+        let es′ : storeThree sorts (3 * (w + i)) (pad 3 fs) ≡ sorts′ = sym (es ∙ ap (storeThree sorts (3 * (w + i))) rs) in
+        record {
+          vs = some .vs ++ (fs ∷ []);
+          midway = midway-next (variant many) n bytes at i next (some .vs) (some .midway) h fs (r .at) (a .parsed) (a .within);
+          held = λ ws l g.
+              subst (λ (x : List Variant). Holds x arities′ sorts′) (append-assoc ws (some .vs) (fs ∷ []))
+              (subst (Holds ((ws ++ some .vs) ++ (fs ∷ [])) arities′) es′
+              (subst (λ (x : List ℕ). Holds ((ws ++ some .vs) ++ (fs ∷ [])) x (storeThree sorts (3 * (w + i)) (pad 3 fs))) ea′
+              (holds-more (ws ++ some .vs) arities sorts (some .held ws l g) (w + i) fs (omega (arith, l, length-append ws (some .vs), some .midway .count)) (omega arith) (a .good .0))));
+        }
+
+    pub variants-stop : i < n → (r : VariantRead) → r ≡ variantAt bytes next many → ¬ (r .refused ≡ 0) → (arities′ sorts′ : List ℕ)
+        → (_≡_ {A = Place} (record { refused = r .refused; at = 0 }) (variantsAt bytes at n many)) × Stores (times n (variant many)) (drop at bytes) w arities₀ sorts₀ arities′ sorts′
+    unfolding variantsAt
+    variants-stop h r is z arities′ sorts′ =
+        let e = midway-stop (variant many) n bytes at i next (some .vs) (some .midway) h (r .refused) (variant-refused bytes next many (some .midway .within) r is z) in
+        (sym (ap (asPlace bytes) e), stores-nothing (times n (variant many)) (drop at bytes) (r .refused) w arities₀ sorts₀ arities′ sorts′ e)
+
+    pub variants-done : n ≤ i
+        → (_≡_ {A = Place} (record { refused = 0; at = next }) (variantsAt bytes at n many)) × Stores (times n (variant many)) (drop at bytes) w arities₀ sorts₀ arities sorts
+    unfolding variantsAt
+    variants-done h =
+        let e = midway-done (variant many) n bytes at i next (some .vs) (some .midway) h in
+        let p : next ≡ cursor bytes (drop next bytes) = sym (cursor-drop bytes next (some .midway .within)) in (
+          ap placed p ∙ sym (ap (asPlace bytes) e),
+          record { stored = λ ws vs rest l g f. (let q : some .vs ≡ vs = same-value e f in subst (λ (x : List Variant). Holds (ws ++ x) arities sorts) q (some .held ws l g)) },
+        )
+
+-- what reading them says
+module _ (bytes : List ℕ) (at n many : ℕ) (inside : at ≤ length bytes) (r : Place) (is : r ≡ variantsAt bytes at n many) where
+  abbrev AllFit : List Variant → Type 0
+  AllFit vs = (length vs ≡ n) × All (VariantFits many) vs
+
+  variants-found : r .refused ≡ 0 → Answer (times n (variant many)) AllFit bytes at (asPlace bytes) (r .at) r
+  unfolding variantsAt
+  variants-found z =
+      answered (times n (variant many)) AllFit (tidy-times n (variant many) (VariantFits many) (tidy-variant many)) bytes at inside (asPlace bytes)
+      (λ x. x .at) (λ x. x .refused) (λ q. refl) (λ a rest. (refl, refl)) r is z
+
+  variants-refused : ¬ (r .refused ≡ 0) → times n (variant many) (drop at bytes) ≡ refused (r .refused)
+  unfolding variantsAt
+  variants-refused z =
+      answer-refused (times n (variant many)) AllFit (tidy-times n (variant many) (VariantFits many) (tidy-variant many)) bytes at inside (asPlace bytes)
+      (λ x. x .at) (λ x. x .refused) (λ q. refl) (λ a rest. (refl, refl)) r is z
+
+-- ---- a type
+
+module _ (bytes : List ℕ) (at total k : ℕ) (limit : k ≡ room total) (n : Number) (counted : n ≡ belowAt bytes at k 4) where
+  in-room : n ≡ belowAt bytes at (room total) 4
+  in-room = counted ∙ ap (λ (i : ℕ). belowAt bytes at i 4) limit
+
+  pub type-inside : total ≤ 48 → n .refused ≡ 0 → (total + n .value ≤ 48) × (n .at ≤ length bytes)
+  type-inside fit z = let f = below-found bytes at (room total) 4 (omega arith) n in-room z in (omega (arith, f .small), f .within)
+
+  module _ (many : ℕ) (arities sorts : List ℕ) where
+    abbrev Typed : TypeRead → List ℕ → List ℕ → Type 0
+    Typed r arities′ sorts′ = (r ≡ oneTypeAt bytes at many total) × Stores (oneType many total) (drop at bytes) total arities sorts arities′ sorts′
+
+    type-no : (q : ℕ) (arities′ sorts′ : List ℕ) → oneType many total (drop at bytes) ≡ refused q → Typed (noType q) arities′ sorts′
+    unfolding oneTypeAt
+    type-no q arities′ sorts′ e = (sym (ap (asType bytes) e), stores-nothing (oneType many total) (drop at bytes) q total arities sorts arities′ sorts′ e)
+
+    pub type-stop : (r : TypeRead) → r ≡ noType (n .refused) → ¬ (n .refused ≡ 0) → (arities′ sorts′ : List ℕ) → Typed r arities′ sorts′
+    type-stop r e z arities′ sorts′ =
+        subst (λ (x : TypeRead). Typed x arities′ sorts′) (sym e)
+        (type-no (n .refused) arities′ sorts′ (ap (andThen (λ v. times v (variant many))) (below-refused bytes at (room total) 4 (omega arith) n in-room z)))
+
+    module _ (fit : total ≤ 48) (z : n .refused ≡ 0) (p : Place) (is : p ≡ variantsAt bytes (n .at) (n .value) many) where
+      from-variants : oneType many total (drop at bytes) ≡ times (n .value) (variant many) (drop (n .at) bytes)
+      from-variants = ap (andThen (λ v. times v (variant many))) (below-found bytes at (room total) 4 (omega arith) n in-room z .parsed)
+
+      pub type-stop-variants : (r : TypeRead) → r ≡ noType (p .refused) → ¬ (p .refused ≡ 0) → (arities′ sorts′ : List ℕ) → Typed r arities′ sorts′
+      type-stop-variants r e y arities′ sorts′ =
+          subst (λ (x : TypeRead). Typed x arities′ sorts′) (sym e)
+          (type-no (p .refused) arities′ sorts′ (from-variants ∙ variants-refused bytes (n .at) (n .value) many (type-inside fit z .1) p is y))
+
+      pub type-done : p .refused ≡ 0 → (arities′ sorts′ : List ℕ) → Stores (times (n .value) (variant many)) (drop (n .at) bytes) total arities sorts arities′ sorts′
+          → Typed (record { refused = 0; at = p .at; variants = n .value }) arities′ sorts′
+      unfolding oneTypeAt
+      type-done y arities′ sorts′ s =
+          let a = variants-found bytes (n .at) (n .value) many (type-inside fit z .1) p is y in
+          let c : p .at ≡ cursor bytes (drop (p .at) bytes) = ap (λ (x : Place). x .at) (a .is) in
+          let l : n .value ≡ length (a .value) = sym (a .good .0) in
+          let r : _≡_ {A = TypeRead} (record { refused = 0; at = p .at; variants = n .value }) (asType bytes (accepted (a .value) (drop (p .at) bytes))) = cc in (
+            r ∙ sym (ap (asType bytes) (from-variants ∙ a .parsed)),
+            record { stored = λ ws vs rest w h e. s .stored ws vs rest w h (sym from-variants ∙ e) },
+          )
+
+-- what reading it says
+module _ (bytes : List ℕ) (at many total : ℕ) (fit : total ≤ totalVariantLimit) (inside : at ≤ length bytes) (r : TypeRead) (is : r ≡ oneTypeAt bytes at many total) where
+  type-found : r .refused ≡ 0 → Answer (oneType many total) (TypeFits many total) bytes at (asType bytes) (r .at) r
+  unfolding oneTypeAt
+  type-found z =
+      answered (oneType many total) (TypeFits many total) (tidy-type many total fit) bytes at inside (asType bytes) (λ x. x .at) (λ x. x .refused) (λ q. refl) (λ a rest. (refl, refl)) r is z
+
+  type-refused : ¬ (r .refused ≡ 0) → oneType many total (drop at bytes) ≡ refused (r .refused)
+  unfolding oneTypeAt
+  type-refused z =
+      answer-refused (oneType many total) (TypeFits many total) (tidy-type many total fit) bytes at inside (asType bytes) (λ x. x .at) (λ x. x .refused) (λ q. refl) (λ a rest. (refl, refl)) r is z
+
+-- ---- types
+
+module _ (bytes : List ℕ) (at many : ℕ) where
+  -- t of them are read, and the columns hold them
+  pub record SomeTypes (t next total : ℕ) (variants first arities sorts : List ℕ) : Type 0 where
+    pub ts : Types
+    pub midway : TypesMidway many bytes at t next ts
+    pub columns : HoldsTypes ts total variants first arities sorts
+
+  pub types-begin : at ≤ length bytes → SomeTypes 0 at 0 (replicate 6 0) (replicate 6 0) (replicate 48 0) (replicate 144 0)
+  types-begin h = record { ts = []; midway = types-start many bytes at h; columns = types-none }
+
+  module _ (t next total : ℕ) (variants first arities sorts : List ℕ) (some : SomeTypes t next total variants first arities sorts) where
+    pub types-room : total ≤ 48
+    types-room = omega (arith, some .columns .all, some .midway .room)
+
+    module _ (r : TypeRead) (is : r ≡ oneTypeAt bytes next many total) where
+      pub type-small : r .refused ≡ 0 → (r .variants ≤ 16) × (total + r .variants ≤ 48)
+      type-small z =
+          let a = type-found bytes next many total types-room (some .midway .within) r is z in
+          let l : r .variants ≡ length (a .value) = ap (λ (x : TypeRead). x .variants) (a .is) in
+          (omega (arith, a .good .0), omega (arith, a .good .1))
+
+      module _ (h : t < many) where
+        pub types-next-turn : many ≤ 6 → r .refused ≡ 0 → (arities′ sorts′ : List ℕ) → Stores (oneType many total) (drop next bytes) total arities sorts arities′ sorts′
+            → SomeTypes (t + 1) (r .at) (total + r .variants) (set variants t (r .variants)) (set first t total) arities′ sorts′
+        types-next-turn fit z arities′ sorts′ s =
+            let a = type-found bytes next many total types-room (some .midway .within) r is z in
+            let ts : Types = some .ts in
+            let vs : List Variant = a .value in
+            let e : total ≡ length (flat ts) = some .columns .all in
+            let l : length vs ≡ r .variants = sym (ap (λ (x : TypeRead). x .variants) (a .is)) in
+            let g : TypesMidway many bytes at (t + 1) (r .at) (ts ++ (vs ∷ [])) =
+            types-turn many bytes at t next ts (some .midway) h vs (r .at) (ap (λ (k : ℕ). oneType many k (drop next bytes)) (sym e) ∙ a .parsed) (a .within) (omega (arith, a .good .1))
+            in
+            record {
+              ts = ts ++ (vs ∷ []);
+              midway = g;
+              columns =
+                  subst (λ (k : ℕ). HoldsTypes (ts ++ (vs ∷ [])) (total + k) (set variants t k) (set first t total) arities′ sorts′) l
+                  (types-more ts total variants first arities sorts arities′ sorts′ (some .columns) t vs (sym (some .midway .count)) (omega arith)
+                  (s .stored (flat ts) vs (drop (r .at) bytes) e (some .columns .below) (a .parsed)));
+            }
+
+        pub types-stop-turn : ¬ (r .refused ≡ 0) → types many many 0 (drop at bytes) ≡ refused (r .refused)
+        types-stop-turn z =
+            types-halt many bytes at t next (some .ts) (some .midway) h (r .refused)
+            (ap (λ (k : ℕ). oneType many k (drop next bytes)) (sym (some .columns .all)) ∙ type-refused bytes next many total types-room (some .midway .within) r is z)
+
+-- ---- the types part
+
+module _ (bytes : List ℕ) (limit k : ℕ) (more : k ≡ suc limit) (n : Number) (counted : n ≡ belowAt bytes 0 k 4) where
+  counted-types : n ≡ belowAt bytes 0 (suc limit) 4
+  counted-types = counted ∙ ap (λ (i : ℕ). belowAt bytes 0 i 4) more
+
+  pub part-stop : ¬ (n .refused ≡ 0) → noTypes (n .refused) ≡ typesAt bytes limit
+  unfolding typesAt asTypes
+  part-stop z = sym (ap (λ (r : Parsed ℕ). asTypes bytes (andThen (λ m. types m m 0) r)) (count-is limit bytes ∙ below-refused bytes 0 (suc limit) 4 (omega arith) n counted-types z))
+
+  module _ (z : n .refused ≡ 0) where
+    pub part-inside : (n .value ≤ limit) × (n .at ≤ length bytes)
+    part-inside = let f = below-found bytes 0 (suc limit) 4 (omega arith) n counted-types z in (omega (arith, f .small), f .within)
+
+    from-types : typesPart limit bytes ≡ types (n .value) (n .value) 0 (drop (n .at) bytes)
+    from-types = ap (andThen (λ m. types m m 0)) (count-is limit bytes ∙ below-found bytes 0 (suc limit) 4 (omega arith) n counted-types z .parsed)
+
+    pub part-stop-types : (q : ℕ) → types (n .value) (n .value) 0 (drop (n .at) bytes) ≡ refused q → noTypes q ≡ typesAt bytes limit
+    unfolding typesAt asTypes
+    part-stop-types q e = sym (ap (asTypes bytes) (from-types ∙ e))
+
+    pub part-done : (t next total : ℕ) (variants first arities sorts : List ℕ) → SomeTypes bytes (n .at) (n .value) t next total variants first arities sorts → t ≤ n .value → n .value ≤ t
+        → _≡_ {A = TypesRead} (record { refused = 0; at = next; table = record { many = n .value; variants = variants; first = first; arities = arities; sorts = sorts } }) (typesAt bytes limit)
+    unfolding typesAt asTypes
+    part-done t next total variants first arities sorts some h g =
+        let c : next ≡ cursor bytes (drop next bytes) = sym (cursor-drop bytes next (some .midway .within)) in
+        let table : TypeTable = record { many = n .value; variants = variants; first = first; arities = arities; sorts = sorts } in
+        let e : table ≡ typeTable (some .ts) = table-is (some .ts) total (n .value) variants first arities sorts (some .columns) (omega (arith, some .midway .count)) in
+        let r : _≡_ {A = TypesRead} (record { refused = 0; at = next; table = table }) (asTypes bytes (accepted (some .ts) (drop next bytes))) = cc in
+        r ∙ sym (ap (asTypes bytes) (from-types ∙ types-end (n .value) bytes (n .at) t next (some .ts) (some .midway) g))

@@ -1,0 +1,186 @@
+-- Parsers of the guard file are tidy: they refuse with a question, never with 0; what they leave are the bytes from some
+-- place on; and what they accept has a property. Tidy parsers compose. From the answer of code that reads at a cursor
+-- follows what the parser does there. Assumes nothing.
+use mathlib.Core.Path.{_≡_, refl, ap, sym, subst, _∙_}
+use mathlib.Core.Bool.{Bool, true, false, _&&_}
+use mathlib.Core.List.{List, [], _∷_}
+use Prim.Native.Nat.{ℕ, zero, suc, _+_, _-_, _≤_, _<_}
+use native.Mathlib.Omega.{arith}
+use lib.Dec.{leb, ltb}
+use lib.ListN.{length, drop, length-drop, length-append}
+use lib.Seq.{drop-drop}
+use borrow.Author.Tests.{leb-true, ltb-true}
+use Rattle.laws.specs.All.{All, All.more, All.none}
+use Rattle.number.specs.Reader.{below}
+use Rattle.laws.proofs.Bools.{and-left, and-right}
+use Rattle.guard.specs.File.{count, name, types, variant}
+use Rattle.guard.specs.Limits.{fieldLimit, totalVariantLimit, variantLimit}
+use Rattle.guard.specs.Number.{Parsed, Parsed.accepted, Parsed.refused, Parser, _>>=_, _>>_, andThen, ask, return, times, unsigned}
+use Rattle.guard.specs.Types.{Types, Variant}
+use Rattle.guard.proofs.Repeats.{room}
+use Rattle.tables.specs.Layout.{flat}
+use Rattle.typereader.specs.TypeReader.{cursor, oneType, typesPart}
+use Rattle.number.proofs.NumberLaws.{cursor as number-cursor, unsigned-question}
+
+other : {A : Type 0} {B : Type 0} {q : ℕ} {a : A} {rest : List ℕ} → Path (Parsed A) (refused q) (accepted a rest) → B
+other e = let z : _≡_ {A = ℕ} 0 1 = cc in absurd (omega arith)
+
+pub record Tidy {A : Type 0} (p : Parser A) (P : A → Type 0) : Type 0 where
+  pub asks : (bs : List ℕ) (q : ℕ) → p bs ≡ refused q → 0 < q
+  pub leaves : (bs : List ℕ) (a : A) (rest : List ℕ) → p bs ≡ accepted a rest → (u : ℕ) × (u ≤ length bs) × (rest ≡ drop u bs)
+  pub gives : (bs : List ℕ) (a : A) (rest : List ℕ) → p bs ≡ accepted a rest → P a
+
+module _ {A B : Type 0} (p : Parser A) (f : A → Parser B) (P : A → Type 0) (Q : B → Type 0) (hp : Tidy p P) (hf : (a : A) → P a → Tidy (f a) Q) where
+  pub tidy-bind : Tidy (p >>= f) Q
+  tidy-bind =
+      record {
+        asks = λ bs q e. asked bs q (p bs) refl e;
+        leaves = λ bs b rest e. left bs b rest (p bs) refl e;
+        gives = λ bs b rest e. given bs b rest (p bs) refl e;
+      }
+    where
+      asked : (bs : List ℕ) (q : ℕ) (r : Parsed A) → p bs ≡ r → andThen f r ≡ refused q → 0 < q
+      asked bs q (refused q′) h e = hp .asks bs q (h ∙ (let z : q′ ≡ q = cc in ap refused z))
+      asked bs q (accepted a mid) h e = hf a (hp .gives bs a mid h) .asks mid q e
+
+      left : (bs : List ℕ) (b : B) (rest : List ℕ) (r : Parsed A) → p bs ≡ r → andThen f r ≡ accepted b rest → (u : ℕ) × (u ≤ length bs) × (rest ≡ drop u bs)
+      left bs b rest (refused q′) h e = other e
+      left bs b rest (accepted a mid) h e =
+          let (u, lu, eu) = hp .leaves bs a mid h in
+          let (w, lw, ew) = hf a (hp .gives bs a mid h) .leaves mid b rest e in
+          (u + w, omega (arith, ap length eu, length-drop u bs), ew ∙ ap (drop w) eu ∙ drop-drop w u bs)
+
+      given : (bs : List ℕ) (b : B) (rest : List ℕ) (r : Parsed A) → p bs ≡ r → andThen f r ≡ accepted b rest → Q b
+      given bs b rest (refused q′) h e = other e
+      given bs b rest (accepted a mid) h e = hf a (hp .gives bs a mid h) .gives mid b rest e
+
+module _ {A : Type 0} where
+  pub tidy-return : (a : A) (P : A → Type 0) → P a → Tidy (return a) P
+  tidy-return a P h =
+      record {
+        asks = λ bs q e. other (sym e);
+        leaves = λ bs b rest e. (0, omega arith, (let r : rest ≡ bs = cc in r));
+        gives = λ bs b rest e. subst P (cc) h;
+      }
+
+  pub tidy-asked : (q : ℕ) (b : Bool) (p : Parser A) (Q : A → Type 0) → 0 < q → (b ≡ true → Tidy p Q) → Tidy (ask q b >> p) Q
+  tidy-asked q true p Q l h = record { asks = h refl .asks; leaves = h refl .leaves; gives = h refl .gives }
+  tidy-asked q false p Q l h =
+      record { asks = λ bs q′ e. (let z : q ≡ q′ = cc in omega arith); leaves = λ bs a rest e. other e; gives = λ bs a rest e. other e }
+
+  pub tidy-weaken : (p : Parser A) (P Q : A → Type 0) → Tidy p P → ((a : A) → P a → Q a) → Tidy p Q
+  tidy-weaken p P Q h f = record { asks = h .asks; leaves = h .leaves; gives = λ bs a rest e. f a (h .gives bs a rest e) }
+
+module _ {A : Type 0} where
+  -- the same parser so many times
+  pub tidy-times : (k : ℕ) (p : Parser A) (P : A → Type 0) → Tidy p P → Tidy (times k p) (λ xs. (length xs ≡ k) × All P xs)
+  tidy-times zero p P h = tidy-return [] (λ xs. (length xs ≡ 0) × All P xs) (refl, none)
+  tidy-times (suc k) p P h =
+      tidy-bind p _ P (λ xs. (length xs ≡ suc k) × All P xs) h
+      (λ x px. tidy-bind (times k p) _ (λ xs. (length xs ≡ k) × All P xs) (λ xs. (length xs ≡ suc k) × All P xs) (tidy-times k p P h)
+      (λ xs pxs. tidy-return (x ∷ xs) (λ xs. (length xs ≡ suc k) × All P xs) (ap suc (pxs .0), more px (pxs .1))))
+
+-- ---- numbers
+
+pub tidy-unsigned : Tidy unsigned (λ n. n ≤ 4294967295)
+tidy-unsigned =
+    record {
+      asks = unsigned-question;
+      leaves = λ bs v rest e. (let c = number-cursor bs 0 v rest e in (length bs - length rest, c .within, c .left));
+      gives = λ bs v rest e. number-cursor bs 0 v rest e .fits;
+    }
+
+pub tidy-below : (limit q : ℕ) → 0 < q → Tidy (below limit q) (λ n. n < limit)
+tidy-below limit q l =
+    tidy-bind unsigned _ (λ n. n ≤ 4294967295) (λ n. n < limit) tidy-unsigned
+    (λ n h. tidy-asked q (ltb n limit) (return n) (λ n. n < limit) l (λ e. tidy-return n (λ n. n < limit) (ltb-true n limit e)))
+
+pub tidy-count : (most : ℕ) → Tidy (count most) (λ n. n ≤ most)
+tidy-count most =
+    tidy-bind unsigned _ (λ n. n ≤ 4294967295) (λ n. n ≤ most) tidy-unsigned
+    (λ n h. tidy-asked 4 (leb n most) (return n) (λ n. n ≤ most) (omega arith) (λ e. tidy-return n (λ n. n ≤ most) (leb-true n most e)))
+
+-- ---- types
+
+abbrev pub VariantFits : ℕ → Variant → Type 0
+VariantFits many fs = (length fs ≤ fieldLimit) × All (λ f. f < many) fs
+
+pub tidy-variant : (many : ℕ) → Tidy (variant many) (VariantFits many)
+tidy-variant many =
+    tidy-bind (count fieldLimit) _ (λ n. n ≤ fieldLimit) (VariantFits many) (tidy-count fieldLimit)
+    (λ f h. tidy-weaken (times f (name many)) (λ xs. (length xs ≡ f) × All (λ i. i < many) xs) (VariantFits many) (tidy-times f (name many) (λ i. i < many) (tidy-below many 5 (omega arith)))
+    (λ xs p. (omega (arith, p .0, h), p .1)))
+
+-- so many variants more fit after `total`
+abbrev pub TypeFits : ℕ → ℕ → List Variant → Type 0
+TypeFits many total vs = (length vs ≤ variantLimit) × (total + length vs ≤ totalVariantLimit) × All (VariantFits many) vs
+
+pub tidy-type : (many total : ℕ) → total ≤ totalVariantLimit → Tidy (oneType many total) (TypeFits many total)
+tidy-type many total fit =
+    tidy-bind (below (room total) 4) _ (λ n. n < room total) (TypeFits many total) (tidy-below (room total) 4 (omega arith))
+    (λ v h. tidy-weaken (times v (variant many)) (λ xs. (length xs ≡ v) × All (VariantFits many) xs) (TypeFits many total) (tidy-times v (variant many) (VariantFits many) (tidy-variant many))
+    (λ xs p. (omega (arith, p .0, h), omega (arith, p .0, h), p .1)))
+
+abbrev pub TypesFit : ℕ → ℕ → ℕ → Types → Type 0
+TypesFit left many total ts = (length ts ≡ left) × (total + length (flat ts) ≤ totalVariantLimit) × All (λ vs. (length vs ≤ variantLimit) × All (VariantFits many) vs) ts
+
+pub tidy-types : (left many total : ℕ) → total ≤ totalVariantLimit → Tidy (types left many total) (TypesFit left many total)
+tidy-types zero many total fit = tidy-return [] (TypesFit 0 many total) (refl, omega arith, none)
+tidy-types (suc left) many total fit =
+    tidy-bind unsigned _ (λ n. n ≤ 4294967295) (TypesFit (suc left) many total) tidy-unsigned
+    (λ v h. tidy-asked 4 (leb v variantLimit && leb (total + v) totalVariantLimit) _ (TypesFit (suc left) many total) (omega arith) (λ e.
+    let l : v ≤ variantLimit = leb-true v variantLimit (and-left (leb v variantLimit) (leb (total + v) totalVariantLimit) e) in
+    let m : total + v ≤ totalVariantLimit = leb-true (total + v) totalVariantLimit (and-right (leb v variantLimit) (leb (total + v) totalVariantLimit) e) in
+    tidy-bind (times v (variant many)) _ (λ xs. (length xs ≡ v) × All (VariantFits many) xs) (TypesFit (suc left) many total) (tidy-times v (variant many) (VariantFits many) (tidy-variant many))
+    (λ vs hv. tidy-bind (types left many (total + v)) _ (TypesFit left many (total + v)) (TypesFit (suc left) many total) (tidy-types left many (total + v) m)
+    (λ ts ht. tidy-return (vs ∷ ts) (TypesFit (suc left) many total)
+    (ap suc (ht .0), omega (arith, hv .0, ht .1, length-append vs (flat ts)), more (omega (arith, hv .0), hv .1) (ht .2))))))
+
+pub tidy-part : (limit : ℕ) → Tidy (typesPart limit) (λ ts. (many : ℕ) × (many ≤ limit) × TypesFit many many 0 ts)
+tidy-part limit =
+    tidy-bind (count limit) _ (λ n. n ≤ limit) (λ ts. (many : ℕ) × (many ≤ limit) × TypesFit many many 0 ts) (tidy-count limit)
+    (λ many h. tidy-weaken (types many many 0) (TypesFit many many 0) (λ ts. (many : ℕ) × (many ≤ limit) × TypesFit many many 0 ts) (tidy-types many many 0 (omega arith)) (λ ts p. (many, h, p)))
+
+-- ---- answers
+
+-- the bytes left are those from their cursor on
+pub cursor-drop : (bytes : List ℕ) (at : ℕ) → at ≤ length bytes → cursor bytes (drop at bytes) ≡ at
+cursor-drop bytes at h = omega (arith, length-drop at bytes)
+
+module _ {A R : Type 0} where
+  -- the answer `r` says that the parser accepts a value at the cursor `at`, and leaves the bytes from the cursor `next` on
+  pub record Answer (p : Parser A) (P : A → Type 0) (bytes : List ℕ) (at : ℕ) (shown : Parsed A → R) (next : ℕ) (r : R) : Type 0 where
+    pub value : A
+    pub parsed : p (drop at bytes) ≡ accepted value (drop next bytes)
+    pub within : next ≤ length bytes
+    pub is : r ≡ shown (accepted value (drop next bytes))
+    pub good : P value
+
+  module _ (p : Parser A) (P : A → Type 0) (tidy : Tidy p P) (bytes : List ℕ) (at : ℕ) (inside : at ≤ length bytes) (shown : Parsed A → R) (place : R → ℕ) (refusal : R → ℕ)
+      (no : (q : ℕ) → refusal (shown (refused q)) ≡ q)
+      (yes : (a : A) (rest : List ℕ) → (refusal (shown (accepted a rest)) ≡ 0) × (place (shown (accepted a rest)) ≡ cursor bytes rest)) (r : R) (is : r ≡ shown (p (drop at bytes))) where
+    pub answered : refusal r ≡ 0 → Answer p P bytes at shown (place r) r
+    answered z = go (p (drop at bytes)) refl
+      where
+        go : (x : Parsed A) → p (drop at bytes) ≡ x → Answer p P bytes at shown (place r) r
+        go (refused q) e = absurd (omega (arith, tidy .asks (drop at bytes) q e, sym (no q) ∙ ap refusal (ap shown (sym e) ∙ sym is) ∙ z))
+        go (accepted a rest) e =
+            let (u, lu, eu) = tidy .leaves (drop at bytes) a rest e in
+            let n : place r ≡ cursor bytes rest = ap place (is ∙ ap shown e) ∙ yes a rest .1 in
+            let d : rest ≡ drop (at + u) bytes = eu ∙ drop-drop u at bytes in
+            let k : place r ≡ at + u = omega (arith, n, ap length d, length-drop (at + u) bytes, length-drop at bytes, lu) in
+            let f : rest ≡ drop (place r) bytes = d ∙ ap (λ (i : ℕ). drop i bytes) (sym k) in
+            record {
+              value = a;
+              parsed = e ∙ ap (accepted a) f;
+              within = omega (arith, k, lu, length-drop at bytes);
+              is = is ∙ ap shown (e ∙ ap (accepted a) f);
+              good = tidy .gives (drop at bytes) a rest e;
+            }
+
+    pub answer-refused : ¬ (refusal r ≡ 0) → p (drop at bytes) ≡ refused (refusal r)
+    answer-refused z = go (p (drop at bytes)) refl
+      where
+        go : (x : Parsed A) → p (drop at bytes) ≡ x → p (drop at bytes) ≡ refused (refusal r)
+        go (refused q) e = e ∙ ap refused (sym (no q) ∙ ap refusal (ap shown (sym e) ∙ sym is))
+        go (accepted a rest) e = absurd (z (ap refusal (is ∙ ap shown e) ∙ yes a rest .0))
