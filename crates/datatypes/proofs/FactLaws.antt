@@ -1,6 +1,6 @@
 -- The rounds of defaults of the types that columns in range hold, and the outcome of the questions 8 and 9. Assumes nothing.
 use mathlib.Core.Path.{_≡_, refl, ap, sym, _∙_}
-use mathlib.Core.Bool.{Bool, true, false, cond}
+use mathlib.Core.Bool.{Bool, true, false, not, cond}
 use mathlib.Core.List.{List}
 use Prim.Native.Nat.{ℕ, _+_, _≤_, _<_}
 use native.Mathlib.Numerals.{add-one}
@@ -14,6 +14,7 @@ use Rattle.tables.specs.Layout.{defaultColumn}
 use Rattle.datatypes.proofs.FlatTypes.{few-variants, fields-inside, number-is, types-many}
 use Rattle.datatypes.proofs.QuestionLaws.{growing-question}
 use Rattle.datatypes.proofs.SettledLaws.{rounds-column, settled-question, settled-variants}
+use Rattle.datatypes.proofs.Walks.{said-no, said-yes}
 
 module _ (many : ℕ) (variants first arities sorts : List ℕ) where
   abbrev ts : Types
@@ -23,10 +24,10 @@ module _ (many : ℕ) (variants first arities sorts : List ℕ) where
   unfolding settledAfter
   rounds-first = ap (column (firstSettled variants)) (sym (types-many many variants first arities sorts))
 
-  pub rounds-next : (k : ℕ) (settled : List ℕ) → settled ≡ settledAfter k variants ts → column (nextSettled settled ts) many ≡ settledAfter (k + 1) variants ts
+  pub rounds-next : (k : ℕ) (settled next : List ℕ) → settled ≡ settledAfter k variants ts → next ≡ column (nextSettled settled ts) many → next ≡ settledAfter (k + 1) variants ts
   unfolding settledAfter
-  rounds-next k settled e =
-      ap (λ (c : List ℕ). column (nextSettled c ts) many) e ∙ ap (column (nextSettled (settledAfter k variants ts) ts)) (sym (types-many many variants first arities sorts))
+  rounds-next k settled next e q =
+      q ∙ ap (λ (c : List ℕ). column (nextSettled c ts) many) e ∙ ap (column (nextSettled (settledAfter k variants ts) ts)) (sym (types-many many variants first arities sorts))
       ∙ ap (λ (m : ℕ). settledAfter m variants ts) (sym (add-one k))
 
   module _ (r : InRange many variants first arities sorts) where
@@ -56,14 +57,15 @@ module _ (many : ℕ) (variants first arities sorts : List ℕ) where
         ap (λ (x : Bool). cond x (cond (infiniteFields ts) (record { refused = 0; defaults = defaultColumn (defaults ts) }) (refusedAt 9)) (refusedAt 8)) p
         ∙ ap (λ (x : Bool). cond a (cond x (record { refused = 0; defaults = defaultColumn (defaults ts) }) (refusedAt 9)) (refusedAt 8)) q
 
-    pub facts-8 : (settled : List ℕ) → settled ≡ settledColumn (defaults ts) → allSettled settled many ≡ false → typeFacts ts ≡ refusedAt 8
-    facts-8 settled e n = outcome false (infiniteFields ts) (sym (question-8 settled e) ∙ n) refl
+    pub facts-8 : (settled : List ℕ) {answer : Bool} → settled ≡ settledColumn (defaults ts) → answer ≡ allSettled settled many → not answer ≡ true → refusedAt 8 ≡ typeFacts ts
+    facts-8 settled e q n = sym (outcome false (infiniteFields ts) (sym (question-8 settled e) ∙ said-no _ q n) refl)
 
-    module _ (settled finite : List ℕ) (e : settled ≡ settledColumn (defaults ts)) (f : finite ≡ finiteColumn ts) (y : allSettled settled many ≡ true) where
-      pub facts-9 : allGrowing finite ts ≡ false → typeFacts ts ≡ refusedAt 9
-      facts-9 n = outcome true false (sym (question-8 settled e) ∙ y) (sym (question-9 finite f) ∙ n)
+    module _ (settled finite : List ℕ) {answer last : Bool} (e : settled ≡ settledColumn (defaults ts)) (f : finite ≡ finiteColumn ts)
+        (q : answer ≡ allSettled settled many) (y : not answer ≡ false) (p : last ≡ allGrowing finite ts) where
+      pub facts-9 : not last ≡ true → refusedAt 9 ≡ typeFacts ts
+      facts-9 n = sym (outcome true false (sym (question-8 settled e) ∙ said-yes _ q y) (sym (question-9 finite f) ∙ said-no _ p n))
 
-      pub facts-yes : allGrowing finite ts ≡ true → typeFacts ts ≡ record { refused = 0; defaults = settled }
+      pub facts-yes : not last ≡ false → record { refused = 0; defaults = settled } ≡ typeFacts ts
       facts-yes z =
-          outcome true true (sym (question-8 settled e) ∙ y) (sym (question-9 finite f) ∙ z)
-          ∙ ap (λ (c : List ℕ). record { refused = 0; defaults = c }) (sym (e ∙ settled-variants (defaults ts) (sym (question-8 settled e) ∙ y)))
+          sym (outcome true true (sym (question-8 settled e) ∙ said-yes _ q y) (sym (question-9 finite f) ∙ said-yes _ p z)
+          ∙ ap (λ (c : List ℕ). record { refused = 0; defaults = c }) (sym (e ∙ settled-variants (defaults ts) (sym (question-8 settled e) ∙ said-yes _ q y))))

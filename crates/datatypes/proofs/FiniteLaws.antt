@@ -168,9 +168,9 @@ module _ (ts : Types) where
   unfolding knownAfter
   known-none = refl
 
-  pub known-next : (k n : ℕ) (known : List ℕ) → length ts ≡ n → known ≡ knownAfter k ts → flags (finiteTypeFrom known 2 ts) n ≡ knownAfter (k + 1) ts
+  pub known-next : (k n : ℕ) (known next : List ℕ) → length ts ≡ n → known ≡ knownAfter k ts → next ≡ flags (finiteTypeFrom known 2 ts) n → next ≡ knownAfter (k + 1) ts
   unfolding knownAfter
-  known-next k n known l e = ap (λ (c : List ℕ). flags (finiteTypeFrom c 2 ts) n) e ∙ ap (flags (finiteTypeFrom (knownAfter k ts) 2 ts)) (sym l) ∙ ap (λ (m : ℕ). knownAfter m ts) (sym (add-one k))
+  known-next k n known next l e q = q ∙ ap (λ (c : List ℕ). flags (finiteTypeFrom c 2 ts) n) e ∙ ap (flags (finiteTypeFrom (knownAfter k ts) 2 ts)) (sym l) ∙ ap (λ (m : ℕ). knownAfter m ts) (sym (add-one k))
 
   -- after as many times two rounds as there are types, the known types are the finite ones
   pub known-all : knownAfter (length ts) ts ≡ finiteColumn ts

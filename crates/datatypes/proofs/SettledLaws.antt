@@ -47,20 +47,21 @@ module _ (many : ℕ) (variants first arities sorts ss : List ℕ) where
   rest-next : (t n v : ℕ) → v < n → restOf t n v ≡ fieldsAt arities sorts (getD first t 0 + v) ∷ restOf t n (v + 1)
   rest-next t n v h = ap (map (λ v. fieldsAt arities sorts (getD first t 0 + v))) (from-next v n h)
 
-  pub next-stop : (t n v : ℕ) → v < n → all (isSettled ss) (fieldsAt arities sorts (getD first t 0 + v)) ≡ true → lowestSettled ss v (restOf t n v) ≡ v
-  unfolding lowestSettled
-  next-stop t n v h e = ap (lowestSettled ss v) (rest-next t n v h) ∙ ap (λ (b : Bool). cond b v (lowestSettled ss (suc v) (restOf t n (v + 1)))) e
+  -- `answer` is what was said of a variant, `whole` what the search is for
+  module _ (t n v : ℕ) {whole : ℕ} {answer : Bool} (w : whole ≡ lowestSettled ss v (restOf t n v)) where
+    pub next-stop : v < n → answer ≡ all (isSettled ss) (fieldsAt arities sorts (getD first t 0 + v)) → answer ≡ true → v ≡ whole
+    unfolding lowestSettled
+    next-stop h e y = sym (w ∙ ap (lowestSettled ss v) (rest-next t n v h) ∙ ap (λ (b : Bool). cond b v (lowestSettled ss (suc v) (restOf t n (v + 1)))) (sym e ∙ y))
 
-  pub next-on : (t n v : ℕ) → v < n → all (isSettled ss) (fieldsAt arities sorts (getD first t 0 + v)) ≡ false
-      → lowestSettled ss v (restOf t n v) ≡ lowestSettled ss (v + 1) (restOf t n (v + 1))
-  unfolding lowestSettled
-  next-on t n v h e =
-      ap (lowestSettled ss v) (rest-next t n v h) ∙ ap (λ (b : Bool). cond b v (lowestSettled ss (suc v) (restOf t n (v + 1)))) e
-      ∙ ap (λ (k : ℕ). lowestSettled ss k (restOf t n (v + 1))) (sym (add-one v))
+    pub next-on : v < n → answer ≡ all (isSettled ss) (fieldsAt arities sorts (getD first t 0 + v)) → answer ≡ false → whole ≡ lowestSettled ss (v + 1) (restOf t n (v + 1))
+    unfolding lowestSettled
+    next-on h e y =
+        w ∙ ap (lowestSettled ss v) (rest-next t n v h) ∙ ap (λ (b : Bool). cond b v (lowestSettled ss (suc v) (restOf t n (v + 1)))) (sym e ∙ y)
+        ∙ ap (λ (k : ℕ). lowestSettled ss k (restOf t n (v + 1))) (sym (add-one v))
 
-  pub next-end : (t n v : ℕ) → n ≤ v → lowestSettled ss v (restOf t n v) ≡ 255
+  pub next-end : (t n v : ℕ) {whole : ℕ} → whole ≡ lowestSettled ss v (restOf t n v) → n ≤ v → 255 ≡ whole
   unfolding lowestSettled
-  next-end t n v h = ap (λ (l : List ℕ). lowestSettled ss v (map (λ v. fieldsAt arities sorts (getD first t 0 + v)) l)) (from-end v n h)
+  next-end t n v w h = sym (w ∙ ap (λ (l : List ℕ). lowestSettled ss v (map (λ v. fieldsAt arities sorts (getD first t 0 + v)) l)) (from-end v n h))
 
 -- ---- the rounds
 

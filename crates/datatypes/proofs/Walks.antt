@@ -1,7 +1,8 @@
 -- Walks over a range of numbers, a turn at a time, as a loop makes them: a test of all, a test of any, and a column that is
 -- filled from the front. Assumes nothing.
 use mathlib.Core.Path.{_≡_, refl, ap, sym, _∙_}
-use mathlib.Core.Bool.{Bool, true, false, _&&_, _||_}
+use borrow.Author.Tests.{not-true, not-false}
+use mathlib.Core.Bool.{not, cond, Bool, true, false, _&&_, _||_}
 use mathlib.Core.List.{List, [], _∷_, _++_, map, List·Memᴰ, List·Memᴰ·head, List·Memᴰ·tail}
 use Prim.Native.Nat.{ℕ, zero, suc, _+_, _-_, _≤_, _<_}
 use native.Mathlib.Nat.{zero-add}
@@ -26,24 +27,37 @@ from-end i n h = let s : n - i ≡ 0 = omega arith in rw s refl
 pub from-start : (n : ℕ) → from (n - 0) 0 ≡ from n 0
 from-start n = let s : n - 0 ≡ n = omega arith in ap (λ (k : ℕ). from k 0) s
 
-module _ (p : ℕ → Bool) (i n : ℕ) where
-  pub all-next : i < n → p i ≡ true → all p (from (n - i) i) ≡ all p (from (n - (i + 1)) (i + 1))
-  all-next h e = ap (all p) (from-next i n h) ∙ ap (λ (b : Bool). b && all p (from (n - (i + 1)) (i + 1))) e
+-- what the test of the whole range says is what the test of the rest says; a turn ends it or goes on
+module _ (p : ℕ → Bool) (i n : ℕ) {whole : Bool} where
+  pub all-next : whole ≡ all p (from (n - i) i) → i < n → p i ≡ true → whole ≡ all p (from (n - (i + 1)) (i + 1))
+  all-next w h e = w ∙ ap (all p) (from-next i n h) ∙ ap (λ (b : Bool). b && all p (from (n - (i + 1)) (i + 1))) e
 
-  pub all-stop : i < n → p i ≡ false → all p (from (n - i) i) ≡ false
-  all-stop h e = ap (all p) (from-next i n h) ∙ ap (λ (b : Bool). b && all p (from (n - (i + 1)) (i + 1))) e
+  pub all-stop : whole ≡ all p (from (n - i) i) → i < n → p i ≡ false → false ≡ whole
+  all-stop w h e = sym (w ∙ ap (all p) (from-next i n h) ∙ ap (λ (b : Bool). b && all p (from (n - (i + 1)) (i + 1))) e)
 
-  pub all-end : n ≤ i → all p (from (n - i) i) ≡ true
-  all-end h = ap (all p) (from-end i n h)
+  pub all-end : whole ≡ all p (from (n - i) i) → n ≤ i → true ≡ whole
+  all-end w h = sym (w ∙ ap (all p) (from-end i n h))
 
-  pub any-next : i < n → p i ≡ false → any p (from (n - i) i) ≡ any p (from (n - (i + 1)) (i + 1))
-  any-next h e = ap (any p) (from-next i n h) ∙ ap (λ (b : Bool). b || any p (from (n - (i + 1)) (i + 1))) e
+  pub any-next : whole ≡ any p (from (n - i) i) → i < n → p i ≡ false → whole ≡ any p (from (n - (i + 1)) (i + 1))
+  any-next w h e = w ∙ ap (any p) (from-next i n h) ∙ ap (λ (b : Bool). b || any p (from (n - (i + 1)) (i + 1))) e
 
-  pub any-stop : i < n → p i ≡ true → any p (from (n - i) i) ≡ true
-  any-stop h e = ap (any p) (from-next i n h) ∙ ap (λ (b : Bool). b || any p (from (n - (i + 1)) (i + 1))) e
+  pub any-stop : whole ≡ any p (from (n - i) i) → i < n → p i ≡ true → true ≡ whole
+  any-stop w h e = sym (w ∙ ap (any p) (from-next i n h) ∙ ap (λ (b : Bool). b || any p (from (n - (i + 1)) (i + 1))) e)
 
-  pub any-end : n ≤ i → any p (from (n - i) i) ≡ false
-  any-end h = ap (any p) (from-end i n h)
+  pub any-end : whole ≡ any p (from (n - i) i) → n ≤ i → false ≡ whole
+  any-end w h = sym (w ∙ ap (any p) (from-end i n h))
+
+-- what a function answered, by a branch on the negated answer
+module _ {answer : Bool} (b : Bool) (e : answer ≡ b) where
+  pub said-no : not answer ≡ true → b ≡ false
+  said-no h = sym e ∙ not-true _ h
+
+  pub said-yes : not answer ≡ false → b ≡ true
+  said-yes h = sym e ∙ not-false _ h
+
+-- a flag is that of the test itself
+pub flag-of : {x : ℕ} {answer : Bool} (b : Bool) → x ≡ cond answer 1 0 → answer ≡ b → x ≡ cond b 1 0
+flag-of b e q = e ∙ ap (λ (c : Bool). cond c 1 0) q
 
 -- ---- tests of mapped lists
 

@@ -1,6 +1,6 @@
 -- Facts about the declared types as columns of numbers, one place for each type, and the rounds that find them.
 -- Assumes nothing.
-use mathlib.Core.Bool.{Bool, true, false, not, _&&_, _||_, cond}
+use mathlib.Core.Bool.{Bool, not, _&&_, _||_, cond}
 use mathlib.Core.List.{List, [], _∷_, map}
 use mathlib.Core.Option.{Option, none, some}
 use Prim.Native.Nat.{ℕ, zero, suc, _+_, _*_, _≤_, _<_}
@@ -8,7 +8,7 @@ use lib.Dec.{eqb}
 use lib.ListN.{length, getD, replicate}
 use Rattle.laws.specs.Lists.{all, any, from}
 use Rattle.guard.specs.Limits.{fieldLimit}
-use Rattle.guard.specs.Message.{Message, Message.number, Message.made}
+use Rattle.guard.specs.Message.{Message, Message.made, Message.number}
 use Rattle.guard.specs.Types.{Defaults, Types, Variant, allDefaults, defaults, finite, infiniteFields, isNumber, variantsOf}
 use Rattle.tables.specs.Layout.{TypesInRange, defaultColumn, pad, typesOf}
 use Rattle.tables.specs.declared.TypeTable.{TypeTable}
@@ -80,7 +80,7 @@ settledColumn ds = pad 6 (map settled ds)
 unfoldable pub isSettled : List ℕ → ℕ → Bool
 isSettled ss t = not (eqb (getD ss t 0) 255)
 
--- the first of these variants, counted from v, that has all its field types settled
+-- the lowest of these variants, counted from v, whose field types are all settled; 255 if there is none
 unfoldable pub lowestSettled : List ℕ → ℕ → List Variant → ℕ
 lowestSettled ss v [] = 255
 lowestSettled ss v (fs ∷ vs) = cond (all (isSettled ss) fs) v (lowestSettled ss (suc v) vs)
@@ -89,6 +89,7 @@ lowestSettled ss v (fs ∷ vs) = cond (all (isSettled ss) fs) v (lowestSettled s
 unfoldable pub nextSettled : List ℕ → Types → ℕ → ℕ
 nextSettled ss ts t = cond (isSettled ss t) (getD ss t 0) (lowestSettled ss 0 (variantsOf ts t))
 
+-- a number type has 0 before the first round
 unfoldable pub firstSettled : List ℕ → ℕ → ℕ
 firstSettled variants t = cond (eqb (getD variants t 0) 0) 0 255
 

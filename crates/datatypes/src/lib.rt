@@ -97,6 +97,7 @@ fn variant_finite(
     true
 }
 
+// A test's outcome as a column holds it.
 fn flag(yes: bool) -> u8
     ensures { λ r. ⌜ r ≡ cond yes 1 0 ⌝ }
 {

@@ -1,3 +1,4 @@
 pub mod PairLaws
 pub mod LiteralLaws
 pub mod LiteralReaderLaws
+pub mod TidyLiterals

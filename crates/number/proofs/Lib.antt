@@ -2,3 +2,4 @@ pub mod Answers
 pub mod Groups
 pub mod Signed
 pub mod NumberLaws
+pub mod Tidy

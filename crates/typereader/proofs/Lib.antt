@@ -1,4 +1,4 @@
-pub mod Tidy
+pub mod TidyTypes
 pub mod Midway
 pub mod Stored
 pub mod Readers

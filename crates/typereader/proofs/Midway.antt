@@ -13,7 +13,8 @@ use Rattle.guard.specs.Types.{Types, Variant}
 use Rattle.guard.proofs.Repeats.{after, after-none, times-done, times-next, times-stop, types-next, types-stop-count, types-stop-variants, variantCount}
 use Rattle.tables.specs.Layout.{flat}
 use Rattle.typereader.specs.TypeReader.{oneType}
-use Rattle.typereader.proofs.Tidy.{VariantFits, tidy-times, tidy-variant}
+use Rattle.number.proofs.Tidy.{tidy-times}
+use Rattle.typereader.proofs.TidyTypes.{VariantFits, tidy-variant}
 
 module _ {A : Type 0} where
   -- i of n elements are read, the elements xs, and the next one begins at the cursor `next`

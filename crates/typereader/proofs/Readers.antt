@@ -17,7 +17,8 @@ use Rattle.tables.proofs.Columns.{pad-nil, pad-set}
 use Rattle.typereader.proofs.Midway.{Midway, TypesMidway, midway-done, midway-next, midway-start, midway-stop, types-end, types-halt, types-start, types-turn}
 use Rattle.number.proofs.NumberLaws.{below-found, below-refused, count-is}
 use Rattle.typereader.proofs.Stored.{HoldsTypes, holds-more, table-is, types-more, types-none}
-use Rattle.typereader.proofs.Tidy.{Answer, TypeFits, VariantFits, answer-refused, answered, cursor-drop, tidy-below, tidy-times, tidy-type, tidy-variant}
+use Rattle.number.proofs.Tidy.{Answer, answer-refused, answered, cursor-drop, tidy-below, tidy-times}
+use Rattle.typereader.proofs.TidyTypes.{TypeFits, VariantFits, tidy-type, tidy-variant}
 use Rattle.number.specs.declared.Number.{Number}
 use Rattle.tables.specs.declared.TypeTable.{TypeTable}
 use Rattle.typereader.specs.declared.Sorts.{Sorts}

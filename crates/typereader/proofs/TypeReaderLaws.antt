@@ -13,7 +13,8 @@ use Rattle.guard.specs.Number.{Parsed.accepted, Parsed.refused}
 use Rattle.guard.specs.Types.{Types, variantsOf}
 use Rattle.tables.specs.Layout.{TypesInRange, flat, typeTable, typesOf}
 use Rattle.typereader.specs.TypeReader.{asTypes, noTypes, typesAt, typesPart}
-use Rattle.typereader.proofs.Tidy.{Answer, TypesFit, VariantFits, answer-refused, answered, tidy-part}
+use Rattle.number.proofs.Tidy.{Answer, answer-refused, answered}
+use Rattle.typereader.proofs.TidyTypes.{TypesFit, VariantFits, tidy-part}
 use Rattle.tables.proofs.TypesBack.{table-in-range, types-back}
 use Rattle.typereader.specs.declared.TypesRead.{TypesRead}
 

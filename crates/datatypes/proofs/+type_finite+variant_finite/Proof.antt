@@ -1,14 +1,13 @@
 -- `type_finite` and `variant_finite` meet their contracts. The rounds fall at each call. Invariants: what the test of the
 -- whole says is what the test of the rest says. Assumes nothing.
-use mathlib.Core.Path.{_≡_, sym, _∙_}
+use mathlib.Core.Path.{_≡_, sym}
 use Prim.Native.Nat.{_-_, _<_, _≤_, ℕ}
 use native.Mathlib.Omega.{arith}
 use lib.ListN.{getD}
 use borrow.Author.Needs.{needs}
-use borrow.Author.Tests.{not-true, not-false}
 use Rattle.laws.specs.Lists.{all, from}
 use Rattle.datatypes.specs.Facts.{fieldsAt, finiteTypeFrom, finiteVariantFrom, typesIn}
-use Rattle.datatypes.proofs.Walks.{all-next, all-stop, all-end}
+use Rattle.datatypes.proofs.Walks.{said-no, said-yes, all-next, all-stop, all-end}
 use Rattle.datatypes.proofs.FiniteLaws.{variantTest, fieldTest, type-known, type-no-rounds, type-number, type-step, variant-no-rounds, variant-step}
 use borrow.Fn.Kinds.{In}
 use borrow.Fn.PlainCycle.{Measures, is, falls, and}
@@ -115,7 +114,7 @@ type-finite-returns-4 t c =
     let a = c .before .before .before .before .before .before .before .before .before .before .args in
     let l = c .before .before .before .loop in
     let p = variantTest (a .many) (a .variants .now) (a .first .now) (a .arities .now) (a .sorts .now) (a .known .now) (a .rounds) (a .t) in
-    sym (l .inv .1 ∙ all-stop p (l .v) (getD (a .variants .now) (a .t) 0) (c .before .before .loop-test .taken) (sym (c .before .variant-finite .ensures) ∙ not-true _ (c .if4 .taken)))
+    all-stop p (l .v) (getD (a .variants .now) (a .t) 0) (l .inv .1) (c .before .before .loop-test .taken) (said-no (p (l .v)) (c .before .variant-finite .ensures) (c .if4 .taken))
 
 type-finite-add-v : (t : ℕ) → type-finite-lts.Need-add-v (
   variant-finite-below t,
@@ -131,7 +130,7 @@ type-finite-loop-again t c =
     let a = c .before .before .before .before .before .before .before .before .before .before .args in
     let l = c .before .before .before .loop in
     let p = variantTest (a .many) (a .variants .now) (a .first .now) (a .arities .now) (a .sorts .now) (a .known .now) (a .rounds) (a .t) in
-    (omega arith, l .inv .1 ∙ all-next p (l .v) (getD (a .variants .now) (a .t) 0) (c .before .before .loop-test .taken) (sym (c .before .variant-finite .ensures) ∙ not-false _ (c .if4 .left)))
+    (omega arith, all-next p (l .v) (getD (a .variants .now) (a .t) 0) (l .inv .1) (c .before .before .loop-test .taken) (said-yes (p (l .v)) (c .before .variant-finite .ensures) (c .if4 .left)))
 
 type-finite-returns-5 : (t : ℕ) → type-finite-lts.Need-returns-5 (
   variant-finite-below t,
@@ -140,7 +139,7 @@ type-finite-returns-5 : (t : ℕ) → type-finite-lts.Need-returns-5 (
 type-finite-returns-5 t c =
     let a = c .before .before .before .before .before .before .before .before .args in
     let l = c .before .loop in
-    sym (l .inv .1 ∙ all-end (variantTest (a .many) (a .variants .now) (a .first .now) (a .arities .now) (a .sorts .now) (a .known .now) (a .rounds) (a .t)) (l .v) (getD (a .variants .now) (a .t) 0) (c .loop-test .left))
+    all-end (variantTest (a .many) (a .variants .now) (a .first .now) (a .arities .now) (a .sorts .now) (a .known .now) (a .rounds) (a .t)) (l .v) (getD (a .variants .now) (a .t) 0) (l .inv .1) (c .loop-test .left)
 
 abbrev variant-finite-Inv-loop : variant-finite-lts.InvT-loop
 variant-finite-Inv-loop many variants first arities sorts known w rounds n j₀ j = (j ≤ n) × (finiteVariantFrom known rounds (typesIn many variants first arities sorts) (fieldsAt arities sorts w) ≡ all (fieldTest many variants first arities sorts known rounds w) (from (n - j) j))
@@ -200,7 +199,7 @@ variant-finite-returns-2 t c =
     let a = c .before .before .before .before .before .before .before .args in
     let l = c .before .before .before .before .loop in
     let p = fieldTest (a .many) (a .variants .now) (a .first .now) (a .arities .now) (a .sorts .now) (a .known .now) (a .rounds) (a .w) in
-    sym (l .inv .1 ∙ all-stop p (l .j) (getD (a .arities .now) (a .w) 0) (c .before .before .before .loop-test .taken) (sym (c .before .type-finite .ensures) ∙ not-true _ (c .if2 .taken)))
+    all-stop p (l .j) (getD (a .arities .now) (a .w) 0) (l .inv .1) (c .before .before .before .loop-test .taken) (said-no (p (l .j)) (c .before .type-finite .ensures) (c .if2 .taken))
 
 variant-finite-add-j : (t : ℕ) → variant-finite-lts.Need-add-j (
   type-finite-below t,
@@ -216,7 +215,7 @@ variant-finite-loop-again t c =
     let a = c .before .before .before .before .before .before .before .args in
     let l = c .before .before .before .before .loop in
     let p = fieldTest (a .many) (a .variants .now) (a .first .now) (a .arities .now) (a .sorts .now) (a .known .now) (a .rounds) (a .w) in
-    (omega arith, l .inv .1 ∙ all-next p (l .j) (getD (a .arities .now) (a .w) 0) (c .before .before .before .loop-test .taken) (sym (c .before .type-finite .ensures) ∙ not-false _ (c .if2 .left)))
+    (omega arith, all-next p (l .j) (getD (a .arities .now) (a .w) 0) (l .inv .1) (c .before .before .before .loop-test .taken) (said-yes (p (l .j)) (c .before .type-finite .ensures) (c .if2 .left)))
 
 variant-finite-returns-3 : (t : ℕ) → variant-finite-lts.Need-returns-3 (
   type-finite-below t,
@@ -225,7 +224,7 @@ variant-finite-returns-3 : (t : ℕ) → variant-finite-lts.Need-returns-3 (
 variant-finite-returns-3 t c =
     let a = c .before .before .before .before .args in
     let l = c .before .loop in
-    sym (l .inv .1 ∙ all-end (fieldTest (a .many) (a .variants .now) (a .first .now) (a .arities .now) (a .sorts .now) (a .known .now) (a .rounds) (a .w)) (l .j) (getD (a .arities .now) (a .w) 0) (c .loop-test .left))
+    all-end (fieldTest (a .many) (a .variants .now) (a .first .now) (a .arities .now) (a .sorts .now) (a .known .now) (a .rounds) (a .w)) (l .j) (getD (a .arities .now) (a .w) 0) (l .inv .1) (c .loop-test .left)
 
 pub +type-finite+variant-finite-spec : {M : Type 1} → statement M
 +type-finite+variant-finite-spec = close μ-type-finite μ-variant-finite (λ t. type-finite-lts.spec (

@@ -1,14 +1,13 @@
 -- `all_growing` meets its contract. Invariant: what holds of all types is what holds of the rest. Assumes nothing.
-use mathlib.Core.Path.{_≡_, sym, _∙_}
+use mathlib.Core.Path.{_≡_}
 use mathlib.Core.Bool.{Bool}
 use Prim.Native.Nat.{ℕ, _-_, _≤_}
 use native.Mathlib.Omega.{arith}
 use borrow.Author.Needs.{needs}
-use borrow.Author.Tests.{not-true, not-false}
 use Rattle.laws.specs.Lists.{all, from}
 use Rattle.guard.specs.Types.{variantsOf}
 use Rattle.datatypes.specs.Facts.{allGrowing, growing, typesIn}
-use Rattle.datatypes.proofs.Walks.{all-next, all-stop, all-end}
+use Rattle.datatypes.proofs.Walks.{said-no, said-yes, all-next, all-stop, all-end}
 use Rattle.datatypes.proofs.QuestionLaws.{all-growing-start}
 use Rattle.datatypes.proofs.all_growing.Statement.{statement}
 use Rattle.datatypes.proofs.all_growing.Tie as tie
@@ -30,21 +29,21 @@ returns c =
     let a = c .before .before .before .before .args in
     let l = c .before .before .before .loop in
     let p : ℕ → Bool = λ t. all (growing (a .finite .now)) (variantsOf (typesIn (a .many) (a .variants .now) (a .first .now) (a .arities .now) (a .sorts .now)) t) in
-    sym (l .inv .1 ∙ all-stop p (l .t) (a .many) (c .before .before .loop-test .taken) (sym (c .before .type-growing .ensures) ∙ not-true _ (c .if1 .taken)))
+    all-stop p (l .t) (a .many) (l .inv .1) (c .before .before .loop-test .taken) (said-no (p (l .t)) (c .before .type-growing .ensures) (c .if1 .taken))
 
 loop-again : tie.Need-loop-again Inv-loop μ-loop
 loop-again c =
     let a = c .before .before .before .before .args in
     let l = c .before .before .before .loop in
     let p : ℕ → Bool = λ t. all (growing (a .finite .now)) (variantsOf (typesIn (a .many) (a .variants .now) (a .first .now) (a .arities .now) (a .sorts .now)) t) in
-    (omega arith, l .inv .1 ∙ all-next p (l .t) (a .many) (c .before .before .loop-test .taken) (sym (c .before .type-growing .ensures) ∙ not-false _ (c .if1 .left)))
+    (omega arith, all-next p (l .t) (a .many) (l .inv .1) (c .before .before .loop-test .taken) (said-yes (p (l .t)) (c .before .type-growing .ensures) (c .if1 .left)))
 
 returns-2 : tie.Need-returns-2 Inv-loop μ-loop
 returns-2 c =
     let a = c .before .before .args in
     let l = c .before .loop in
     let p : ℕ → Bool = λ t. all (growing (a .finite .now)) (variantsOf (typesIn (a .many) (a .variants .now) (a .first .now) (a .arities .now) (a .sorts .now)) t) in
-    sym (l .inv .1 ∙ all-end p (l .t) (a .many) (c .loop-test .left))
+    all-end p (l .t) (a .many) (l .inv .1) (c .loop-test .left)
 
 pub all-growing-spec : {M : Type 1} → statement M
 all-growing-spec =

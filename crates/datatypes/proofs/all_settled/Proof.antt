@@ -1,5 +1,5 @@
 -- `all_settled` meets its contract. Invariant: whether all types are settled is whether the rest are. Assumes nothing.
-use mathlib.Core.Path.{_≡_, sym, _∙_}
+use mathlib.Core.Path.{_≡_}
 use Prim.Native.Nat.{_-_, _≤_}
 use native.Mathlib.Omega.{arith}
 use borrow.Author.Needs.{needs}
@@ -26,7 +26,7 @@ returns : tie.Need-returns Inv-loop μ-loop
 returns c =
     let a = c .before .before .before .before .args in
     let l = c .before .before .before .loop in
-    sym (l .inv .1 ∙ all-stop (isSettled (a .settled .now)) (l .t) (a .many) (c .before .before .loop-test .taken) (settled-no _ _ (c .if1 .taken)))
+    all-stop (isSettled (a .settled .now)) (l .t) (a .many) (l .inv .1) (c .before .before .loop-test .taken) (settled-no _ _ (c .if1 .taken))
 
 add-t : tie.Need-add-t Inv-loop μ-loop
 add-t c = omega arith
@@ -35,13 +35,13 @@ loop-again : tie.Need-loop-again Inv-loop μ-loop
 loop-again c =
     let a = c .before .before .before .before .args in
     let l = c .before .before .before .loop in
-    (omega arith, l .inv .1 ∙ all-next (isSettled (a .settled .now)) (l .t) (a .many) (c .before .before .loop-test .taken) (settled-yes _ _ (c .if1 .left)))
+    (omega arith, all-next (isSettled (a .settled .now)) (l .t) (a .many) (l .inv .1) (c .before .before .loop-test .taken) (settled-yes _ _ (c .if1 .left)))
 
 returns-2 : tie.Need-returns-2 Inv-loop μ-loop
 returns-2 c =
     let a = c .before .before .args in
     let l = c .before .loop in
-    sym (l .inv .1 ∙ all-end (isSettled (a .settled .now)) (l .t) (a .many) (c .loop-test .left))
+    all-end (isSettled (a .settled .now)) (l .t) (a .many) (l .inv .1) (c .loop-test .left)
 
 pub all-settled-spec : {M : Type 1} → statement M
 all-settled-spec =

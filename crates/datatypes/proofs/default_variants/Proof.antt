@@ -27,7 +27,7 @@ loop-again : tie.Need-loop-again Inv-loop μ-loop
 loop-again c =
     let a = c .before .before .before .before .before .args in
     let l = c .before .before .before .loop in
-    (omega arith, c .next-defaults .ensures ∙ rounds-next (a .many) (a .variants .now) (a .first .now) (a .arities .now) (a .sorts .now) (l .round) (l .settled) (l .inv .1))
+    (omega arith, rounds-next (a .many) (a .variants .now) (a .first .now) (a .arities .now) (a .sorts .now) (l .round) (l .settled) (c .next-defaults .result) (l .inv .1) (c .next-defaults .ensures))
 
 returns : tie.Need-returns Inv-loop μ-loop
 returns c =

@@ -1,5 +1,5 @@
 -- `finite_types` meets its contract. Invariant: what is known is what so many times two rounds find. Assumes nothing.
-use mathlib.Core.Path.{_≡_, sym, _∙_}
+use mathlib.Core.Path.{_≡_, sym}
 use Prim.Native.Nat.{_-_, _≤_}
 use native.Mathlib.Omega.{arith}
 use borrow.Author.Needs.{needs}
@@ -25,7 +25,7 @@ loop-again : tie.Need-loop-again Inv-loop μ-loop
 loop-again c =
     let a = c .before .before .before .before .args in
     let l = c .before .before .before .loop in
-    (omega arith, c .next-known .ensures ∙ known-next (typesIn (a .many) (a .variants .now) (a .first .now) (a .arities .now) (a .sorts .now)) (l .pass) (a .many) (l .known) (types-many (a .many) (a .variants .now) (a .first .now) (a .arities .now) (a .sorts .now)) (l .inv .1))
+    (omega arith, known-next (typesIn (a .many) (a .variants .now) (a .first .now) (a .arities .now) (a .sorts .now)) (l .pass) (a .many) (l .known) (c .next-known .result) (types-many (a .many) (a .variants .now) (a .first .now) (a .arities .now) (a .sorts .now)) (l .inv .1) (c .next-known .ensures))
 
 returns : tie.Need-returns Inv-loop μ-loop
 returns c =

@@ -1,5 +1,5 @@
 -- `next_default` meets its contract. Invariant: the lowest ready variant is the lowest one of the rest. Assumes nothing.
-use mathlib.Core.Path.{_≡_, sym, _∙_}
+use mathlib.Core.Path.{_≡_, sym}
 use Prim.Native.Nat.{_-_, _≤_}
 use native.Mathlib.Omega.{arith}
 use lib.ListN.{getD}
@@ -53,7 +53,7 @@ returns-2 : tie.Need-returns-2 Inv-loop μ-loop
 returns-2 c =
     let a = c .before .before .before .before .before .before .before .before .args in
     let l = c .before .before .before .loop in
-    sym (l .inv .1 ∙ next-stop (a .many) (a .variants .now) (a .first .now) (a .arities .now) (a .sorts .now) (a .settled .now) (a .t) (getD (a .variants .now) (a .t) 0) (l .v) (c .before .before .loop-test .taken) (sym (c .before .variant-ready .ensures) ∙ c .if2 .taken))
+    next-stop (a .many) (a .variants .now) (a .first .now) (a .arities .now) (a .sorts .now) (a .settled .now) (a .t) (getD (a .variants .now) (a .t) 0) (l .v) (l .inv .1) (c .before .before .loop-test .taken) (c .before .variant-ready .ensures) (c .if2 .taken)
 
 add-v : tie.Need-add-v Inv-loop μ-loop
 add-v c = omega (arith, c .before .before .before .before .before .before .before .before .pre .0 .variants (c .before .before .before .before .before .before .before .before .args .t))
@@ -62,13 +62,13 @@ loop-again : tie.Need-loop-again Inv-loop μ-loop
 loop-again c =
     let a = c .before .before .before .before .before .before .before .before .args in
     let l = c .before .before .before .loop in
-    (omega arith, l .inv .1 ∙ next-on (a .many) (a .variants .now) (a .first .now) (a .arities .now) (a .sorts .now) (a .settled .now) (a .t) (getD (a .variants .now) (a .t) 0) (l .v) (c .before .before .loop-test .taken) (sym (c .before .variant-ready .ensures) ∙ c .if2 .left))
+    (omega arith, next-on (a .many) (a .variants .now) (a .first .now) (a .arities .now) (a .sorts .now) (a .settled .now) (a .t) (getD (a .variants .now) (a .t) 0) (l .v) (l .inv .1) (c .before .before .loop-test .taken) (c .before .variant-ready .ensures) (c .if2 .left))
 
 returns-3 : tie.Need-returns-3 Inv-loop μ-loop
 returns-3 c =
     let a = c .before .before .before .before .before .before .args in
     let l = c .before .loop in
-    sym (l .inv .1 ∙ next-end (a .many) (a .variants .now) (a .first .now) (a .arities .now) (a .sorts .now) (a .settled .now) (a .t) (getD (a .variants .now) (a .t) 0) (l .v) (c .loop-test .left))
+    next-end (a .many) (a .variants .now) (a .first .now) (a .arities .now) (a .sorts .now) (a .settled .now) (a .t) (getD (a .variants .now) (a .t) 0) (l .v) (l .inv .1) (c .loop-test .left)
 
 pub next-default-spec : {M : Type 1} → statement M
 next-default-spec =

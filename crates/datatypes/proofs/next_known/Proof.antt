@@ -1,11 +1,11 @@
 -- `next_known` meets its contract. Invariant: the flags so far are a column. Assumes nothing.
-use mathlib.Core.Path.{_≡_, sym, ap, _∙_}
+use mathlib.Core.Path.{_≡_, sym}
 use Prim.Native.Nat.{_-_, _≤_, ℕ}
 use native.Mathlib.Omega.{arith}
 use borrow.Author.Needs.{needs}
 use mathlib.Core.Bool.{cond}
 use Rattle.datatypes.specs.Facts.{column, finiteTypeFrom, flags, typesIn}
-use Rattle.datatypes.proofs.Walks.{column-none, column-store, column-end}
+use Rattle.datatypes.proofs.Walks.{flag-of, column-none, column-store, column-end}
 use Rattle.datatypes.proofs.next_known.Statement.{statement}
 use Rattle.datatypes.proofs.next_known.Tie as tie
 
@@ -31,7 +31,7 @@ loop-again : tie.Need-loop-again Inv-loop μ-loop
 loop-again c =
     let a = c .before .before .before .before .args in
     let l = c .before .before .before .loop in
-    (omega arith, column-store (λ (u : ℕ). cond (finiteTypeFrom (a .known .now) 2 (typesIn (a .many) (a .variants .now) (a .first .now) (a .arities .now) (a .sorts .now)) u) 1 0) (l .t) (l .next) (c .flag .result) (omega (arith, c .before .before .before .before .pre .many)) (l .inv .1) (c .flag .ensures ∙ ap (λ b. cond b 1 0) (c .before .type-finite .ensures)))
+    (omega arith, column-store (λ (u : ℕ). cond (finiteTypeFrom (a .known .now) 2 (typesIn (a .many) (a .variants .now) (a .first .now) (a .arities .now) (a .sorts .now)) u) 1 0) (l .t) (l .next) (c .flag .result) (omega (arith, c .before .before .before .before .pre .many)) (l .inv .1) (flag-of (finiteTypeFrom (a .known .now) 2 (typesIn (a .many) (a .variants .now) (a .first .now) (a .arities .now) (a .sorts .now)) (l .t)) (c .flag .ensures) (c .before .type-finite .ensures)))
 
 returns : tie.Need-returns Inv-loop μ-loop
 unfolding flags

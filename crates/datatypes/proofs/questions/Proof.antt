@@ -1,6 +1,5 @@
 -- `questions` meets its contract. Assumes nothing.
-use mathlib.Core.Path.{sym, _∙_}
-use borrow.Author.Tests.{not-true, not-false}
+use mathlib.Core.Path.{_∙_}
 use Rattle.datatypes.proofs.FactLaws.{facts-8, facts-9, facts-yes}
 use borrow.Author.Needs.{needs}
 use Rattle.datatypes.proofs.questions.Statement.{statement}
@@ -11,7 +10,7 @@ returns c =
     let s = c .before .before .before .before .before in
     let a = s .args in
     let d = c .before .before .before .before .default-variants in
-    c .refusal .ensures ∙ sym (facts-8 (a .many) (a .variants .now) (a .first .now) (a .arities .now) (a .sorts .now) (s .pre) (d .result) (d .ensures) (sym (c .before .before .all-settled .ensures) ∙ not-true _ (c .before .if1 .taken)))
+    c .refusal .ensures ∙ facts-8 (a .many) (a .variants .now) (a .first .now) (a .arities .now) (a .sorts .now) (s .pre) (d .result) (d .ensures) (c .before .before .all-settled .ensures) (c .before .if1 .taken)
 
 returns-2 : tie.Need-returns-2
 returns-2 c =
@@ -19,7 +18,7 @@ returns-2 c =
     let a = s .args in
     let d = c .before .before .before .before .before .before .before .before .default-variants in
     let f = c .before .before .before .before .finite-types in
-    c .refusal2 .ensures ∙ sym (facts-9 (a .many) (a .variants .now) (a .first .now) (a .arities .now) (a .sorts .now) (s .pre) (d .result) (f .result) (d .ensures) (f .ensures) (sym (c .before .before .before .before .before .before .all-settled .ensures) ∙ not-false _ (c .before .before .before .before .before .if1 .left)) (sym (c .before .before .all-growing .ensures) ∙ not-true _ (c .before .if2 .taken)))
+    c .refusal2 .ensures ∙ facts-9 (a .many) (a .variants .now) (a .first .now) (a .arities .now) (a .sorts .now) (s .pre) (d .result) (f .result) (d .ensures) (f .ensures) (c .before .before .before .before .before .before .all-settled .ensures) (c .before .before .before .before .before .if1 .left) (c .before .before .all-growing .ensures) (c .before .if2 .taken)
 
 returns-3 : tie.Need-returns-3
 returns-3 c =
@@ -27,7 +26,7 @@ returns-3 c =
     let a = s .args in
     let d = c .before .before .before .before .before .before .before .default-variants in
     let f = c .before .before .before .finite-types in
-    sym (facts-yes (a .many) (a .variants .now) (a .first .now) (a .arities .now) (a .sorts .now) (s .pre) (d .result) (f .result) (d .ensures) (f .ensures) (sym (c .before .before .before .before .before .all-settled .ensures) ∙ not-false _ (c .before .before .before .before .if1 .left)) (sym (c .before .all-growing .ensures) ∙ not-false _ (c .if2 .left)))
+    facts-yes (a .many) (a .variants .now) (a .first .now) (a .arities .now) (a .sorts .now) (s .pre) (d .result) (f .result) (d .ensures) (f .ensures) (c .before .before .before .before .before .all-settled .ensures) (c .before .before .before .before .if1 .left) (c .before .all-growing .ensures) (c .if2 .left)
 
 pub questions-spec : {M : Type 1} → statement M
 questions-spec =

@@ -1,15 +1,14 @@
 -- `type_growing` meets its contract. Invariant: what holds of all variants is what holds of the rest. Assumes nothing.
-use mathlib.Core.Path.{_≡_, sym, _∙_}
+use mathlib.Core.Path.{_≡_}
 use Prim.Native.Nat.{_+_, _-_, _≤_, ℕ}
 use native.Mathlib.Omega.{arith}
 use lib.ListN.{getD}
 use borrow.Author.Needs.{needs}
 use mathlib.Core.Bool.{Bool}
-use borrow.Author.Tests.{not-true, not-false}
 use Rattle.laws.specs.Lists.{all, from}
 use Rattle.guard.specs.Types.{variantsOf}
 use Rattle.datatypes.specs.Facts.{fieldsAt, growing, typesIn}
-use Rattle.datatypes.proofs.Walks.{all-next, all-stop, all-end}
+use Rattle.datatypes.proofs.Walks.{said-no, said-yes, all-next, all-stop, all-end}
 use Rattle.datatypes.proofs.FlatTypes.{fields-in-range, variants-all}
 use Rattle.datatypes.proofs.type_growing.Statement.{statement}
 use Rattle.datatypes.proofs.type_growing.Tie as tie
@@ -49,7 +48,7 @@ returns c =
     let a = c .before .before .before .before .before .before .args in
     let l = c .before .before .before .loop in
     let p : ℕ → Bool = λ v. growing (a .finite .now) (fieldsAt (a .arities .now) (a .sorts .now) (getD (a .first .now) (a .t) 0 + v)) in
-    sym (l .inv .1 ∙ all-stop p (l .v) (getD (a .variants .now) (a .t) 0) (c .before .before .loop-test .taken) (sym (c .before .variant-growing .ensures) ∙ not-true _ (c .if1 .taken)))
+    all-stop p (l .v) (getD (a .variants .now) (a .t) 0) (l .inv .1) (c .before .before .loop-test .taken) (said-no (p (l .v)) (c .before .variant-growing .ensures) (c .if1 .taken))
 
 add-v : tie.Need-add-v Inv-loop μ-loop
 add-v c = omega (arith, c .before .before .before .before .before .before .pre .0 .variants (c .before .before .before .before .before .before .args .t))
@@ -59,14 +58,14 @@ loop-again c =
     let a = c .before .before .before .before .before .before .args in
     let l = c .before .before .before .loop in
     let p : ℕ → Bool = λ v. growing (a .finite .now) (fieldsAt (a .arities .now) (a .sorts .now) (getD (a .first .now) (a .t) 0 + v)) in
-    (omega arith, l .inv .1 ∙ all-next p (l .v) (getD (a .variants .now) (a .t) 0) (c .before .before .loop-test .taken) (sym (c .before .variant-growing .ensures) ∙ not-false _ (c .if1 .left)))
+    (omega arith, all-next p (l .v) (getD (a .variants .now) (a .t) 0) (l .inv .1) (c .before .before .loop-test .taken) (said-yes (p (l .v)) (c .before .variant-growing .ensures) (c .if1 .left)))
 
 returns-2 : tie.Need-returns-2 Inv-loop μ-loop
 returns-2 c =
     let a = c .before .before .before .before .args in
     let l = c .before .loop in
     let p : ℕ → Bool = λ v. growing (a .finite .now) (fieldsAt (a .arities .now) (a .sorts .now) (getD (a .first .now) (a .t) 0 + v)) in
-    sym (l .inv .1 ∙ all-end p (l .v) (getD (a .variants .now) (a .t) 0) (c .loop-test .left))
+    all-end p (l .v) (getD (a .variants .now) (a .t) 0) (l .inv .1) (c .loop-test .left)
 
 pub type-growing-spec : {M : Type 1} → statement M
 type-growing-spec =

@@ -1,6 +1,6 @@
 -- `variant_growing` meets its contract. Invariant: whether there is an infinite field is whether the rest have one.
 -- Assumes nothing.
-use mathlib.Core.Path.{_≡_, sym, _∙_}
+use mathlib.Core.Path.{_≡_, sym}
 use Prim.Native.Nat.{_-_, _≤_}
 use native.Mathlib.Omega.{arith}
 use lib.ListN.{getD}
@@ -44,7 +44,7 @@ returns-2 c =
     let a = c .before .before .before .before .before .before .before .args in
     let l = c .before .before .before .before .loop in
     let p = infiniteAt (a .arities .now) (a .sorts .now) (a .finite .now) (a .w) in
-    sym (l .inv .1 ∙ any-stop p (l .j) (getD (a .arities .now) (a .w) 0) (c .before .before .before .loop-test .taken) (infinite-yes (a .arities .now) (a .sorts .now) (a .finite .now) (a .w) (l .j) (c .if2 .taken)))
+    any-stop p (l .j) (getD (a .arities .now) (a .w) 0) (l .inv .1) (c .before .before .before .loop-test .taken) (infinite-yes (a .arities .now) (a .sorts .now) (a .finite .now) (a .w) (l .j) (c .if2 .taken))
 
 add-j : tie.Need-add-j Inv-loop μ-loop
 add-j c = omega (arith, c .before .before .before .before .before .before .before .pre .0 .few (c .before .before .before .before .before .before .before .args .w))
@@ -54,14 +54,14 @@ loop-again c =
     let a = c .before .before .before .before .before .before .before .args in
     let l = c .before .before .before .before .loop in
     let p = infiniteAt (a .arities .now) (a .sorts .now) (a .finite .now) (a .w) in
-    (omega arith, l .inv .1 ∙ any-next p (l .j) (getD (a .arities .now) (a .w) 0) (c .before .before .before .loop-test .taken) (infinite-no (a .arities .now) (a .sorts .now) (a .finite .now) (a .w) (l .j) (c .if2 .left)))
+    (omega arith, any-next p (l .j) (getD (a .arities .now) (a .w) 0) (l .inv .1) (c .before .before .before .loop-test .taken) (infinite-no (a .arities .now) (a .sorts .now) (a .finite .now) (a .w) (l .j) (c .if2 .left)))
 
 returns-3 : tie.Need-returns-3 Inv-loop μ-loop
 returns-3 c =
     let a = c .before .before .before .before .args in
     let l = c .before .loop in
     let p = infiniteAt (a .arities .now) (a .sorts .now) (a .finite .now) (a .w) in
-    sym (l .inv .1 ∙ any-end p (l .j) (getD (a .arities .now) (a .w) 0) (c .loop-test .left))
+    any-end p (l .j) (getD (a .arities .now) (a .w) 0) (l .inv .1) (c .loop-test .left)
 
 pub variant-growing-spec : {M : Type 1} → statement M
 variant-growing-spec =

@@ -45,7 +45,7 @@ returns c =
     let a = c .before .before .before .before .before .before .args in
     let l = c .before .before .before .before .loop in
     let p : ℕ → Bool = λ j. isSettled (a .settled .now) (getD (a .sorts .now) (3 * a .w + j) 0) in
-    sym (l .inv .1 ∙ all-stop p (l .j) (getD (a .arities .now) (a .w) 0) (c .before .before .before .loop-test .taken) (settled-no _ _ (c .if1 .taken)))
+    all-stop p (l .j) (getD (a .arities .now) (a .w) 0) (l .inv .1) (c .before .before .before .loop-test .taken) (settled-no _ _ (c .if1 .taken))
 
 add-j : tie.Need-add-j Inv-loop μ-loop
 add-j c = omega (arith, c .before .before .before .before .before .before .pre .0 .few (c .before .before .before .before .before .before .args .w))
@@ -55,14 +55,14 @@ loop-again c =
     let a = c .before .before .before .before .before .before .args in
     let l = c .before .before .before .before .loop in
     let p : ℕ → Bool = λ j. isSettled (a .settled .now) (getD (a .sorts .now) (3 * a .w + j) 0) in
-    (omega arith, l .inv .1 ∙ all-next p (l .j) (getD (a .arities .now) (a .w) 0) (c .before .before .before .loop-test .taken) (settled-yes _ _ (c .if1 .left)))
+    (omega arith, all-next p (l .j) (getD (a .arities .now) (a .w) 0) (l .inv .1) (c .before .before .before .loop-test .taken) (settled-yes _ _ (c .if1 .left)))
 
 returns-2 : tie.Need-returns-2 Inv-loop μ-loop
 returns-2 c =
     let a = c .before .before .before .args in
     let l = c .before .loop in
     let p : ℕ → Bool = λ j. isSettled (a .settled .now) (getD (a .sorts .now) (3 * a .w + j) 0) in
-    sym (l .inv .1 ∙ all-end p (l .j) (getD (a .arities .now) (a .w) 0) (c .loop-test .left))
+    all-end p (l .j) (getD (a .arities .now) (a .w) 0) (l .inv .1) (c .loop-test .left)
 
 pub variant-ready-spec : {M : Type 1} → statement M
 variant-ready-spec =

@@ -26,11 +26,11 @@ no-sorts-requires c κs = search needs
 returns : tie.Need-returns Inv-loop μ-loop
 returns c =
     let l = c .before .before .before .before .before .loop in
-    c .no-sorts .ensures ∙ sorts-stop _ _ _ _ (l .i) (l .next) (l .sorts) (l .inv .1) (c .before .before .before .before .loop-test .taken) (c .before .before .before .read-below .result) (c .before .before .before .read-below .ensures) (c .before .if1 .taken)
+    let n = c .before .before .before .read-below in
+    c .no-sorts .ensures ∙ sorts-stop _ _ _ _ (l .i) (l .next) (l .sorts) (l .inv .1) (c .before .before .before .before .loop-test .taken) (n .result) (n .ensures) (c .before .if1 .taken)
 
 cast-sorts : tie.Need-cast-sorts Inv-loop μ-loop
 cast-sorts c =
-    let l = c .before .before .before .before .before .loop in
     let n = c .before .before .before .read-below in
     omega (arith, number-small _ _ _ _ (omega arith) (n .result) (n .ensures) (c .before .if1 .left))
 
@@ -47,7 +47,8 @@ loop-again : tie.Need-loop-again Inv-loop μ-loop
 loop-again c =
     let l = c .before .before .before .before .before .loop in
     let n = c .before .before .before .read-below in
-    (omega arith, sorts-next _ _ _ _ (l .i) (l .next) (l .sorts) (l .inv .1) (c .before .before .before .before .loop-test .taken) (c .before .before .before .before .before .before .before .pre .0) (n .result) (n .ensures) (c .before .if1 .left))
+    let p = c .before .before .before .before .before .before .before .pre in
+    (omega arith, sorts-next _ _ _ _ (l .i) (l .next) (l .sorts) (l .inv .1) (c .before .before .before .before .loop-test .taken) (p .0) (n .result) (n .ensures) (c .before .if1 .left))
 
 returns-2 : tie.Need-returns-2 Inv-loop μ-loop
 returns-2 c =

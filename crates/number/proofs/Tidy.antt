@@ -2,25 +2,19 @@
 -- place on; and what they accept has a property. Tidy parsers compose. From the answer of code that reads at a cursor
 -- follows what the parser does there. Assumes nothing.
 use mathlib.Core.Path.{_≡_, refl, ap, sym, subst, _∙_}
-use mathlib.Core.Bool.{Bool, true, false, _&&_}
+use mathlib.Core.Bool.{Bool, true, false}
 use mathlib.Core.List.{List, [], _∷_}
 use Prim.Native.Nat.{ℕ, zero, suc, _+_, _-_, _≤_, _<_}
 use native.Mathlib.Omega.{arith}
 use lib.Dec.{leb, ltb}
-use lib.ListN.{length, drop, length-drop, length-append}
+use lib.ListN.{length, drop, length-drop}
 use lib.Seq.{drop-drop}
 use borrow.Author.Tests.{leb-true, ltb-true}
 use Rattle.laws.specs.All.{All, All.more, All.none}
-use Rattle.number.specs.Reader.{below}
-use Rattle.laws.proofs.Bools.{and-left, and-right}
-use Rattle.guard.specs.File.{count, name, types, variant}
-use Rattle.guard.specs.Limits.{fieldLimit, totalVariantLimit, variantLimit}
+use Rattle.guard.specs.File.{count}
 use Rattle.guard.specs.Number.{Parsed, Parsed.accepted, Parsed.refused, Parser, _>>=_, _>>_, andThen, ask, return, times, unsigned}
-use Rattle.guard.specs.Types.{Types, Variant}
-use Rattle.guard.proofs.Repeats.{room}
-use Rattle.tables.specs.Layout.{flat}
-use Rattle.typereader.specs.TypeReader.{cursor, oneType, typesPart}
-use Rattle.number.proofs.NumberLaws.{cursor as number-cursor, unsigned-question}
+use Rattle.number.specs.Reader.{below}
+use Rattle.number.proofs.NumberLaws.{cursor, unsigned-question}
 
 other : {A : Type 0} {B : Type 0} {q : ℕ} {a : A} {rest : List ℕ} → Path (Parsed A) (refused q) (accepted a rest) → B
 other e = let z : _≡_ {A = ℕ} 0 1 = cc in absurd (omega arith)
@@ -86,8 +80,8 @@ pub tidy-unsigned : Tidy unsigned (λ n. n ≤ 4294967295)
 tidy-unsigned =
     record {
       asks = unsigned-question;
-      leaves = λ bs v rest e. (let c = number-cursor bs 0 v rest e in (length bs - length rest, c .within, c .left));
-      gives = λ bs v rest e. number-cursor bs 0 v rest e .fits;
+      leaves = λ bs v rest e. (let c = cursor bs 0 v rest e in (length bs - length rest, c .within, c .left));
+      gives = λ bs v rest e. cursor bs 0 v rest e .fits;
     }
 
 pub tidy-below : (limit q : ℕ) → 0 < q → Tidy (below limit q) (λ n. n < limit)
@@ -100,51 +94,10 @@ tidy-count most =
     tidy-bind unsigned _ (λ n. n ≤ 4294967295) (λ n. n ≤ most) tidy-unsigned
     (λ n h. tidy-asked 4 (leb n most) (return n) (λ n. n ≤ most) (omega arith) (λ e. tidy-return n (λ n. n ≤ most) (leb-true n most e)))
 
--- ---- types
-
-abbrev pub VariantFits : ℕ → Variant → Type 0
-VariantFits many fs = (length fs ≤ fieldLimit) × All (λ f. f < many) fs
-
-pub tidy-variant : (many : ℕ) → Tidy (variant many) (VariantFits many)
-tidy-variant many =
-    tidy-bind (count fieldLimit) _ (λ n. n ≤ fieldLimit) (VariantFits many) (tidy-count fieldLimit)
-    (λ f h. tidy-weaken (times f (name many)) (λ xs. (length xs ≡ f) × All (λ i. i < many) xs) (VariantFits many) (tidy-times f (name many) (λ i. i < many) (tidy-below many 5 (omega arith)))
-    (λ xs p. (omega (arith, p .0, h), p .1)))
-
--- so many variants more fit after `total`
-abbrev pub TypeFits : ℕ → ℕ → List Variant → Type 0
-TypeFits many total vs = (length vs ≤ variantLimit) × (total + length vs ≤ totalVariantLimit) × All (VariantFits many) vs
-
-pub tidy-type : (many total : ℕ) → total ≤ totalVariantLimit → Tidy (oneType many total) (TypeFits many total)
-tidy-type many total fit =
-    tidy-bind (below (room total) 4) _ (λ n. n < room total) (TypeFits many total) (tidy-below (room total) 4 (omega arith))
-    (λ v h. tidy-weaken (times v (variant many)) (λ xs. (length xs ≡ v) × All (VariantFits many) xs) (TypeFits many total) (tidy-times v (variant many) (VariantFits many) (tidy-variant many))
-    (λ xs p. (omega (arith, p .0, h), omega (arith, p .0, h), p .1)))
-
-abbrev pub TypesFit : ℕ → ℕ → ℕ → Types → Type 0
-TypesFit left many total ts = (length ts ≡ left) × (total + length (flat ts) ≤ totalVariantLimit) × All (λ vs. (length vs ≤ variantLimit) × All (VariantFits many) vs) ts
-
-pub tidy-types : (left many total : ℕ) → total ≤ totalVariantLimit → Tidy (types left many total) (TypesFit left many total)
-tidy-types zero many total fit = tidy-return [] (TypesFit 0 many total) (refl, omega arith, none)
-tidy-types (suc left) many total fit =
-    tidy-bind unsigned _ (λ n. n ≤ 4294967295) (TypesFit (suc left) many total) tidy-unsigned
-    (λ v h. tidy-asked 4 (leb v variantLimit && leb (total + v) totalVariantLimit) _ (TypesFit (suc left) many total) (omega arith) (λ e.
-    let l : v ≤ variantLimit = leb-true v variantLimit (and-left (leb v variantLimit) (leb (total + v) totalVariantLimit) e) in
-    let m : total + v ≤ totalVariantLimit = leb-true (total + v) totalVariantLimit (and-right (leb v variantLimit) (leb (total + v) totalVariantLimit) e) in
-    tidy-bind (times v (variant many)) _ (λ xs. (length xs ≡ v) × All (VariantFits many) xs) (TypesFit (suc left) many total) (tidy-times v (variant many) (VariantFits many) (tidy-variant many))
-    (λ vs hv. tidy-bind (types left many (total + v)) _ (TypesFit left many (total + v)) (TypesFit (suc left) many total) (tidy-types left many (total + v) m)
-    (λ ts ht. tidy-return (vs ∷ ts) (TypesFit (suc left) many total)
-    (ap suc (ht .0), omega (arith, hv .0, ht .1, length-append vs (flat ts)), more (omega (arith, hv .0), hv .1) (ht .2))))))
-
-pub tidy-part : (limit : ℕ) → Tidy (typesPart limit) (λ ts. (many : ℕ) × (many ≤ limit) × TypesFit many many 0 ts)
-tidy-part limit =
-    tidy-bind (count limit) _ (λ n. n ≤ limit) (λ ts. (many : ℕ) × (many ≤ limit) × TypesFit many many 0 ts) (tidy-count limit)
-    (λ many h. tidy-weaken (types many many 0) (TypesFit many many 0) (λ ts. (many : ℕ) × (many ≤ limit) × TypesFit many many 0 ts) (tidy-types many many 0 (omega arith)) (λ ts p. (many, h, p)))
-
 -- ---- answers
 
 -- the bytes left are those from their cursor on
-pub cursor-drop : (bytes : List ℕ) (at : ℕ) → at ≤ length bytes → cursor bytes (drop at bytes) ≡ at
+pub cursor-drop : (bytes : List ℕ) (at : ℕ) → at ≤ length bytes → length bytes - length (drop at bytes) ≡ at
 cursor-drop bytes at h = omega (arith, length-drop at bytes)
 
 module _ {A R : Type 0} where
@@ -158,7 +111,7 @@ module _ {A R : Type 0} where
 
   module _ (p : Parser A) (P : A → Type 0) (tidy : Tidy p P) (bytes : List ℕ) (at : ℕ) (inside : at ≤ length bytes) (shown : Parsed A → R) (place : R → ℕ) (refusal : R → ℕ)
       (no : (q : ℕ) → refusal (shown (refused q)) ≡ q)
-      (yes : (a : A) (rest : List ℕ) → (refusal (shown (accepted a rest)) ≡ 0) × (place (shown (accepted a rest)) ≡ cursor bytes rest)) (r : R) (is : r ≡ shown (p (drop at bytes))) where
+      (yes : (a : A) (rest : List ℕ) → (refusal (shown (accepted a rest)) ≡ 0) × (place (shown (accepted a rest)) ≡ length bytes - length rest)) (r : R) (is : r ≡ shown (p (drop at bytes))) where
     pub answered : refusal r ≡ 0 → Answer p P bytes at shown (place r) r
     answered z = go (p (drop at bytes)) refl
       where
@@ -166,7 +119,7 @@ module _ {A R : Type 0} where
         go (refused q) e = absurd (omega (arith, tidy .asks (drop at bytes) q e, sym (no q) ∙ ap refusal (ap shown (sym e) ∙ sym is) ∙ z))
         go (accepted a rest) e =
             let (u, lu, eu) = tidy .leaves (drop at bytes) a rest e in
-            let n : place r ≡ cursor bytes rest = ap place (is ∙ ap shown e) ∙ yes a rest .1 in
+            let n : place r ≡ length bytes - length rest = ap place (is ∙ ap shown e) ∙ yes a rest .1 in
             let d : rest ≡ drop (at + u) bytes = eu ∙ drop-drop u at bytes in
             let k : place r ≡ at + u = omega (arith, n, ap length d, length-drop (at + u) bytes, length-drop at bytes, lu) in
             let f : rest ≡ drop (place r) bytes = d ∙ ap (λ (i : ℕ). drop i bytes) (sym k) in
