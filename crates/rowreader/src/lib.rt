@@ -5,9 +5,9 @@ use number::Number;
 use tables::RowTable;
 use tables::TypeTable;
 ghost use mathlib.Core.Path.{_≡_};
-ghost use Prim.Native.Nat.{ℕ, _<_, _≤_};
+ghost use Prim.Native.Nat.{_<_, _≤_};
 ghost use lib.ListN.{length, take};
-ghost use Rattle.guard.specs.Types.{variantsOf, fieldsOf, fieldType};
+ghost use Rattle.guard.specs.Types.{variantsOf};
 ghost use Rattle.tables.specs.Layout.{TypesInRange, typesOf};
 ghost use Rattle.rowreader.specs.ByTypes.{variableRow, constantRow, builtOf, builtRow, fieldOf, fieldRow};
 ghost use Rattle.rowreader.specs.RowReader.{Before, variantNumber, fieldsFrom, noParts, partsAt, variantTermAt, noRowRead, rowWith, rowReadAt, stored, noRows, rowsFrom, rowsAt};
@@ -102,7 +102,8 @@ fn read_parts(
         let term = p.value as usize;
         let sort = types[term];
         let place = 3 * w + j;
-        if sort != sorts[place] {
+        let wanted = sorts[place];
+        if sort != wanted {
             return refuse_parts(7);
         }
         parts[j] = p.value as u8;

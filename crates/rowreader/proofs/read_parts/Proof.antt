@@ -67,8 +67,8 @@ add-place : tie.Need-add-place Inv-loop μ-loop
 add-place c =
     omega (arith, c .before .before .before .before .before .before .before .before .pre .2, c .before .before .before .before .before .before .before .before .pre .3, c .before .before .before .before .before .loop-test .taken)
 
-element-copy-out-if2 : tie.Need-element-copy-out-if2 Inv-loop μ-loop
-element-copy-out-if2 c =
+element-copy-out-wanted : tie.Need-element-copy-out-wanted Inv-loop μ-loop
+element-copy-out-wanted c =
     omega (arith, c .before .before .before .before .before .before .before .before .pre .2, c .before .before .before .before .before .before .before .before .pre .3, c .before .before .before .before .before .loop-test .taken)
 
 refuse-parts-requires-2 : tie.Need-refuse-parts-requires-2 Inv-loop μ-loop
@@ -132,7 +132,7 @@ read-parts-spec =
     element-copy-out-sort
     mul-place
     add-place
-    element-copy-out-if2
+    element-copy-out-wanted
     refuse-parts-requires-2
     returns-2
     cast-parts
