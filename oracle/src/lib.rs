@@ -18,6 +18,7 @@ pub mod read;
 pub mod search;
 pub mod shown;
 pub mod smt;
+pub mod tables;
 pub mod text;
 pub mod types;
 pub mod vectors;

@@ -8,8 +8,8 @@ use std::process::ExitCode;
 
 use oracle::answer::answer;
 use oracle::guard::Limits;
-use oracle::vectors::{self, USUAL_BUDGET};
-use oracle::{read, smt, text};
+use oracle::vectors::{self, Vector, USUAL_BUDGET};
+use oracle::{read, smt, tables, text};
 
 const USAGE: &str = "\
 usage: oracle answer FILE [--budget N]        the answer to a guard file
@@ -17,6 +17,9 @@ usage: oracle answer FILE [--budget N]        the answer to a guard file
        oracle smt FILE                        the guard in SMT-LIB 2
        oracle vectors [--check] DIR           writes or checks DIR/vectors.txt
        oracle pack VECTORS OUT                packs vectors into one binary file
+       oracle tables [--check] VECTORS DIR    writes or checks DIR/stdin, the packed
+                                              vectors, and DIR/stdout, the desk's tables
+                                              of each in a line
 FILE and OUTPUT may be - for standard input. N is 1000000 if not given.";
 
 /// Why the program fails.
@@ -58,6 +61,8 @@ fn run(words: &[&str]) -> Result<(), Failure> {
         ["vectors", "--check", dir] => check_vectors(dir),
         ["vectors", dir] => write_vectors(dir),
         ["pack", vectors, out] => pack_command(vectors, out),
+        ["tables", "--check", vectors, dir] => check_tables(vectors, dir),
+        ["tables", vectors, dir] => write_tables(vectors, dir),
         _ => Err(Failure::Usage(format!(
             "what is asked isn't clear\n{USAGE}"
         ))),
@@ -142,8 +147,42 @@ fn check_vectors(dir: &str) -> Result<(), Failure> {
     }
 }
 
+fn load_vectors(path: &str) -> Result<Vec<Vector>, Failure> {
+    vectors::parse(&load_text(path)?).map_err(Failure::Wrong)
+}
+
 fn pack_command(path: &str, out: &str) -> Result<(), Failure> {
-    let vectors = vectors::parse(&load_text(path)?).map_err(Failure::Wrong)?;
-    let packed = vectors::pack(&vectors).map_err(Failure::Wrong)?;
+    let packed = vectors::pack(&load_vectors(path)?).map_err(Failure::Wrong)?;
     store(Path::new(out), &packed)
+}
+
+fn write_tables(path: &str, dir: &str) -> Result<(), Failure> {
+    let vectors = load_vectors(path)?;
+    let packed = vectors::pack(&vectors).map_err(Failure::Wrong)?;
+    let dir = Path::new(dir);
+    store(&dir.join("stdin"), &packed)?;
+    store(&dir.join("stdout"), tables::summaries(&vectors).as_bytes())?;
+    print(&format!(
+        "the tables of {} vectors written\n",
+        vectors.len()
+    ))
+}
+
+fn check_tables(path: &str, dir: &str) -> Result<(), Failure> {
+    let vectors = load_vectors(path)?;
+    let packed = vectors::pack(&vectors).map_err(Failure::Wrong)?;
+    let stdin = Path::new(dir).join("stdin");
+    if load(&stdin.to_string_lossy())? != packed {
+        let why = format!("{} isn't the packed vectors", stdin.display());
+        return Err(Failure::Wrong(why));
+    }
+    let stdout = Path::new(dir).join("stdout");
+    let found = load_text(&stdout.to_string_lossy())?;
+    match vectors::first_difference(&found, &tables::summaries(&vectors)) {
+        None => print(&format!("ok, the tables of {} vectors\n", vectors.len())),
+        Some(difference) => Err(Failure::Wrong(format!(
+            "{}: {difference}",
+            stdout.display()
+        ))),
+    }
 }

@@ -75,7 +75,7 @@ fn checks_printed_answers() {
 
 #[test]
 fn wrong_use_is_said() {
-    let cases: [&[&str]; 14] = [
+    let cases: [&[&str]; 16] = [
         &[],
         &["nonsense"],
         &["answer"],
@@ -90,6 +90,8 @@ fn wrong_use_is_said() {
         &["check", "-", "no such file"],
         &["vectors", "--check", "no such directory"],
         &["pack", "no such file", "out"],
+        &["tables", "no such file", "."],
+        &["tables", "--check", "no such file", "."],
     ];
     for words in cases {
         let output = oracle(words, &[0, 0, 0]);
@@ -135,5 +137,29 @@ fn packs_vectors() {
     ] {
         fs::write(&vectors, bad).expect("written");
         assert_eq!(oracle(&words, &[]).status.code(), Some(1), "{bad:?}");
+    }
+}
+
+#[test]
+fn tables_are_written_and_checked() {
+    let dir = scratch("tables");
+    let vectors = dir.join("vectors.txt");
+    fs::write(&vectors, "x\t1\t000000\tSAT 1\ny\t0\t-\tREFUSED 2\n").expect("written");
+    let (vectors, place) = (vectors.display().to_string(), dir.display().to_string());
+    let write = ["tables", &vectors, &place];
+    let check = ["tables", "--check", &vectors, &place];
+    assert_eq!(oracle(&write, &[]).status.code(), Some(0));
+    assert_eq!(oracle(&check, &[]).status.code(), Some(0));
+    let stdout = fs::read(dir.join("stdout")).expect("the lines");
+    assert_eq!(stdout, b"0 types 0 rows 0 lines, sum 0\nrefused 2\n");
+    for name in ["stdin", "stdout"] {
+        let right = fs::read(dir.join(name)).expect("written");
+        let mut wrong = right.clone();
+        wrong[0] ^= 1;
+        for bytes in [&wrong[..], &right[1..], &right[..right.len() - 1]] {
+            fs::write(dir.join(name), bytes).expect("written");
+            assert_eq!(oracle(&check, &[]).status.code(), Some(1), "{name}");
+        }
+        fs::write(dir.join(name), right).expect("written");
     }
 }

@@ -1,0 +1,34 @@
+-- `next_file` is safe: the part that it lends is as long as the file. Assumes nothing.
+use mathlib.Core.Path.{sym}
+use lib.Seq.{length-take-le}
+use borrow.Author.Needs.{needs}
+use Rattle.readervectors.proofs.next_file.Statement.{statement}
+use Rattle.readervectors.proofs.next_file.Tie as tie
+
+returns : tie.Need-returns
+returns c = search needs
+
+slice-relend-prefix-read-file : tie.Need-slice-relend-prefix-read-file
+slice-relend-prefix-read-file c = search needs
+
+slice-aggregate-read-file : tie.Need-slice-aggregate-read-file
+slice-aggregate-read-file c =
+    let start = c .before .before .before in
+    sym (length-take-le (start .args .length) (start .args .buffer .now) (c .before .if1 .left))
+
+read-file-requires : tie.Need-read-file-requires
+read-file-requires c κs = search needs
+
+skip-budget-requires : tie.Need-skip-budget-requires
+skip-budget-requires c κs = search needs
+
+same-length : tie.Need-same-length
+same-length c = search needs
+
+returns-2 : tie.Need-returns-2
+returns-2 c = search needs
+
+pub next-file-spec : {M : Type 1} → statement M
+next-file-spec =
+    tie.close
+    (tie.spec returns slice-relend-prefix-read-file slice-aggregate-read-file read-file-requires skip-budget-requires same-length returns-2)
