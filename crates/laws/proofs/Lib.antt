@@ -6,3 +6,4 @@ pub mod Counts
 pub mod Bits
 pub mod Stores
 pub mod Products
+pub mod InPlace
