@@ -1,7 +1,7 @@
 -- The answers of the readers of the parts, put together: what each says of the tables of the whole file. Assumes nothing.
 use mathlib.Core.Path.{_≡_, refl, ap, sym, subst, _∙_}
 use mathlib.Core.Bool.{Bool, true, false, cond}
-use mathlib.Core.List.{List, []}
+use mathlib.Core.List.{List}
 use Prim.Native.Nat.{ℕ, zero, suc, _≤_, _<_}
 use native.Mathlib.Omega.{arith}
 use lib.Dec.{ltb}
@@ -9,12 +9,11 @@ use lib.ListN.{length, drop, getD, List·getD-eq-default}
 use borrow.Author.Tests.{ltb-true, ltb-false}
 use Rattle.laws.specs.All.{All, All.more, All.none}
 use Rattle.laws.proofs.Bools.{by-test}
-use Rattle.laws.proofs.Lists.{all-getD, all-weaken}
 use Rattle.guard.specs.File.{literal}
-use Rattle.guard.specs.Guard.{Guard, Literal, Row, noRow, typeAt, typeOf}
-use Rattle.guard.specs.Limits.{Limits, Supported, fieldLimit, variantLimit}
+use Rattle.guard.specs.Guard.{Literal, Row, noRow, typeAt, typeOf}
+use Rattle.guard.specs.Limits.{Limits, Supported}
 use Rattle.guard.specs.Number.{Parsed, Parsed.accepted, Parsed.refused, _>>_, andThen, ask, return}
-use Rattle.guard.specs.Types.{Types, Variant, allDefaults, defaults, fieldsOf, infiniteFields, variantsOf}
+use Rattle.guard.specs.Types.{Types, allDefaults, defaults, fieldsOf, infiniteFields}
 use Rattle.guard.proofs.Accepted.{RowsFit, accepted-rows, row-type}
 use Rattle.tables.specs.Layout.{TypesInRange, defaultColumn, literalTable, rowTable, typeTable, typesOf}
 use Rattle.tables.specs.declared.RowTable.{RowTable}

@@ -3,16 +3,12 @@ use Rattle.guard.specs.Closure.{rename}
 use lib.ListN.{getD, set}
 use lib.Bits.{bitAnd}
 use Prim.Native.Nat.{ℕ, max, min}
-use mathlib.Core.List.{List}
 use mathlib.Core.Logic.{⊎-elim}
 use mathlib.Core.Path.{_≡_, _∙_, ap, ap₂}
 use native.Mathlib.Omega.{arith}
 use borrow.Author.Needs.{needs}
 use Rattle.classes.proofs.merge.Statement.{statement}
 use Rattle.classes.proofs.merge.Tie as tie
-use Rattle.classes.proofs.merge.Reads as reads
-use Rattle.classes.proofs.merge.Lts as lts
-use Rattle.classes.proofs.rename.Reads as rename-reads
 
 mul-labels : tie.Need-mul-labels
 mul-labels c = search needs

@@ -8,8 +8,6 @@ use mathlib.Core.Path.{_≡_, _∙_, refl}
 use native.Mathlib.Omega.{arith}
 use Rattle.classes.proofs.rename.Statement.{statement}
 use Rattle.classes.proofs.rename.Tie as tie
-use Rattle.classes.proofs.rename.Reads as reads
-use Rattle.classes.proofs.rename.Lts as lts
 
 abbrev Inv-loop : tie.InvT-loop
 Inv-loop classes₀ low high k₀ classes k = (k ≤ 96) × (classes ≡ renamedFront low high k classes₀) × (length classes₀ ≡ 96)

@@ -3,8 +3,6 @@ use native.Mathlib.Omega.{arith}
 use borrow.Author.Needs.{needs}
 use Rattle.classes.proofs.restrict.Statement.{statement}
 use Rattle.classes.proofs.restrict.Tie as tie
-use Rattle.classes.proofs.restrict.Reads as reads
-use Rattle.classes.proofs.restrict.Lts as lts
 
 element-copy-out-c : tie.Need-element-copy-out-c
 element-copy-out-c c = search needs

@@ -1,15 +1,11 @@
 -- `unite` meets its contract. Assumes nothing.
 use Rattle.classes.proofs.ClassLaws.{same-already, same-fails, same-holds, same-new}
 use Rattle.classes.specs.Held.{state}
-use Rattle.guard.specs.Closure.{State, classOf, merge}
-use mathlib.Core.Path.{_≡_, _∙_, ap₂}
-use native.Mathlib.Omega.{arith}
+use Rattle.guard.specs.Closure.{State, merge}
+use mathlib.Core.Path.{_∙_, ap₂}
 use borrow.Author.Needs.{needs}
 use Rattle.classes.proofs.unite.Statement.{statement}
 use Rattle.classes.proofs.unite.Tie as tie
-use Rattle.classes.proofs.unite.Reads as reads
-use Rattle.classes.proofs.unite.Lts as lts
-use Rattle.classes.proofs.merge.Reads as merge-reads
 
 element-copy-out-c : tie.Need-element-copy-out-c
 element-copy-out-c c = search needs

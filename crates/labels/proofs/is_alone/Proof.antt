@@ -3,8 +3,6 @@ use Rattle.labels.proofs.LabelLaws.{alone-test, other-test}
 use borrow.Author.Needs.{needs}
 use Rattle.labels.proofs.is_alone.Statement.{statement}
 use Rattle.labels.proofs.is_alone.Tie as tie
-use Rattle.labels.proofs.is_alone.Reads as reads
-use Rattle.labels.proofs.is_alone.Lts as lts
 
 cast-if1 : tie.Need-cast-if1
 cast-if1 c = search needs

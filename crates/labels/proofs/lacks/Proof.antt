@@ -3,8 +3,6 @@ use Rattle.labels.proofs.LabelLaws.{lacks-test}
 use borrow.Author.Needs.{needs}
 use Rattle.labels.proofs.lacks.Statement.{statement}
 use Rattle.labels.proofs.lacks.Tie as tie
-use Rattle.labels.proofs.lacks.Reads as reads
-use Rattle.labels.proofs.lacks.Lts as lts
 
 cast-result : tie.Need-cast-result
 cast-result c = search needs

@@ -2,8 +2,6 @@
 use Rattle.labels.proofs.LabelLaws.{lowest-is}
 use Rattle.labels.proofs.lowest.Statement.{statement}
 use Rattle.labels.proofs.lowest.Tie as tie
-use Rattle.labels.proofs.lowest.Reads as reads
-use Rattle.labels.proofs.lowest.Lts as lts
 
 returns : tie.Need-returns
 returns c = lowest-is (c .args .label)

@@ -3,8 +3,6 @@ use Rattle.labels.proofs.LabelLaws.{shifted-one}
 use borrow.Author.Needs.{needs}
 use Rattle.labels.proofs.only.Statement.{statement}
 use Rattle.labels.proofs.only.Tie as tie
-use Rattle.labels.proofs.only.Reads as reads
-use Rattle.labels.proofs.only.Lts as lts
 
 cast-result : tie.Need-cast-result
 cast-result c = search needs

@@ -3,8 +3,6 @@ use Rattle.labels.proofs.LabelLaws.{size-is}
 use native.Mathlib.Omega.{arith}
 use Rattle.labels.proofs.size.Statement.{statement}
 use Rattle.labels.proofs.size.Tie as tie
-use Rattle.labels.proofs.size.Reads as reads
-use Rattle.labels.proofs.size.Lts as lts
 
 returns : tie.Need-returns
 returns c = size-is (c .args .label) (omega arith)

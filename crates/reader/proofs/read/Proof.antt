@@ -10,14 +10,6 @@ use native.Mathlib.Omega.{arith}
 use borrow.Author.Needs.{needs}
 use Rattle.reader.proofs.read.Statement.{statement}
 use Rattle.reader.proofs.read.Tie as tie
-use Rattle.reader.proofs.read.Reads as reads
-use Rattle.reader.proofs.read.Lts as lts
-use Rattle.datatypes.proofs.type_facts.Reads as type-facts-reads
-use Rattle.literalreader.proofs.read_literals.Reads as read-literals-reads
-use Rattle.reader.proofs.at_most.Reads as at-most-reads
-use Rattle.reader.proofs.no_tables.Reads as no-tables-reads
-use Rattle.rowreader.proofs.read_rows.Reads as read-rows-reads
-use Rattle.typereader.proofs.read_types.Reads as read-types-reads
 
 at-most-requires : tie.Need-at-most-requires
 at-most-requires c κs = search needs
