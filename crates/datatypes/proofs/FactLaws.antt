@@ -9,9 +9,10 @@ use lib.ListN.{length}
 use Rattle.laws.specs.All.{All}
 use Rattle.guard.specs.Limits.{variantLimit}
 use Rattle.guard.specs.Types.{Types, allDefaults, defaults, infiniteFields, variantsOf}
-use Rattle.datatypes.specs.Facts.{InRange, allGrowing, allSettled, column, finiteColumn, firstSettled, nextSettled, refusedAt, settledAfter, settledColumn, typeFacts, typesIn}
+use Rattle.datatypes.specs.Facts.{InRange, allGrowing, allSettled, column, columns, finiteColumn, firstSettled, nextSettled, refusedAt, settledAfter, settledColumn, typeFacts, typesIn}
 use Rattle.tables.specs.Layout.{defaultColumn}
-use Rattle.datatypes.proofs.FlatTypes.{few-variants, fields-inside, number-is, types-many}
+use Rattle.datatypes.proofs.FlatTypes.{few-variants, fields-inside, number-is}
+use Rattle.tables.proofs.Held.{held-many}
 use Rattle.datatypes.proofs.QuestionLaws.{growing-question}
 use Rattle.datatypes.proofs.SettledLaws.{rounds-column, settled-question, settled-variants}
 use Rattle.datatypes.proofs.Walks.{said-no, said-yes}
@@ -22,30 +23,30 @@ module _ (many : ℕ) (variants first arities sorts : List ℕ) where
 
   pub rounds-first : column (firstSettled variants) many ≡ settledAfter 0 variants ts
   unfolding settledAfter
-  rounds-first = ap (column (firstSettled variants)) (sym (types-many many variants first arities sorts))
+  rounds-first = ap (column (firstSettled variants)) (sym (held-many (columns many variants first arities sorts)))
 
   pub rounds-next : (k : ℕ) (settled next : List ℕ) → settled ≡ settledAfter k variants ts → next ≡ column (nextSettled settled ts) many → next ≡ settledAfter (k + 1) variants ts
   unfolding settledAfter
   rounds-next k settled next e q =
-      q ∙ ap (λ (c : List ℕ). column (nextSettled c ts) many) e ∙ ap (column (nextSettled (settledAfter k variants ts) ts)) (sym (types-many many variants first arities sorts))
+      q ∙ ap (λ (c : List ℕ). column (nextSettled c ts) many) e ∙ ap (column (nextSettled (settledAfter k variants ts) ts)) (sym (held-many (columns many variants first arities sorts)))
       ∙ ap (λ (m : ℕ). settledAfter m variants ts) (sym (add-one k))
 
   module _ (r : InRange many variants first arities sorts) where
     few : (t : ℕ) → t < length ts → length (variantsOf ts t) ≤ variantLimit
-    few t h = few-variants many variants first arities sorts r t (omega (arith, types-many many variants first arities sorts))
+    few t h = few-variants many variants first arities sorts r t (omega (arith, held-many (columns many variants first arities sorts)))
 
     inside : (t : ℕ) → t < length ts → All (All (λ f. f < length ts)) (variantsOf ts t)
-    inside t h = fields-inside many variants first arities sorts r t (omega (arith, types-many many variants first arities sorts))
+    inside t h = fields-inside many variants first arities sorts r t (omega (arith, held-many (columns many variants first arities sorts)))
 
     pub rounds-end : (k : ℕ) (settled : List ℕ) → k ≤ many → many ≤ k → settled ≡ settledAfter k variants ts → settled ≡ settledColumn (defaults ts)
     rounds-end k settled h g e =
-        let q : k ≡ length ts = omega (arith, types-many many variants first arities sorts) in
+        let q : k ≡ length ts = omega (arith, held-many (columns many variants first arities sorts)) in
         e ∙ ap (λ (m : ℕ). settledAfter m variants ts) q
-        ∙ rounds-column ts few inside variants (λ t h. sym (number-is many variants first arities sorts t (omega (arith, types-many many variants first arities sorts)))) (length ts)
+        ∙ rounds-column ts few inside variants (λ t h. sym (number-is many variants first arities sorts t (omega (arith, held-many (columns many variants first arities sorts))))) (length ts)
 
     question-8 : (settled : List ℕ) → settled ≡ settledColumn (defaults ts) → allSettled settled many ≡ allDefaults ts
     question-8 settled e =
-        ap (λ (c : List ℕ). allSettled c many) e ∙ ap (allSettled (settledColumn (defaults ts))) (sym (types-many many variants first arities sorts)) ∙ settled-question ts few inside
+        ap (λ (c : List ℕ). allSettled c many) e ∙ ap (allSettled (settledColumn (defaults ts))) (sym (held-many (columns many variants first arities sorts))) ∙ settled-question ts few inside
 
     question-9 : (finite : List ℕ) → finite ≡ finiteColumn ts → allGrowing finite ts ≡ infiniteFields ts
     question-9 finite e = ap (λ (c : List ℕ). allGrowing c ts) e ∙ growing-question ts

@@ -1,36 +1,28 @@
--- The types that columns in range hold: their number, the variants of each, and the fields of each variant. Assumes nothing.
+-- The types that columns in range hold: the variants of each, and the fields of each variant. Assumes nothing.
 use mathlib.Core.Path.{_≡_, ap, _∙_, sym, subst}
 use mathlib.Core.Bool.{Bool}
 use mathlib.Core.List.{List, map, []}
 use Prim.Native.Nat.{ℕ, _+_, _*_, _<_, _-_, _≤_}
-use native.Mathlib.Nat.{zero-add}
 use native.Mathlib.Omega.{arith}
 use lib.Dec.{eqb}
 use lib.ListN.{length, getD}
 use Rattle.laws.specs.All.{All}
 use Rattle.laws.specs.Lists.{all, any, from}
-use Rattle.laws.proofs.Lists.{all-map, from-bounds, map-from-at, map-from-length}
+use Rattle.laws.proofs.Lists.{all-map, from-bounds, map-from-length}
 use Rattle.guard.specs.Limits.{variantLimit}
 use Rattle.guard.specs.Types.{Types, Variant, isNumber, variantsOf}
-use Rattle.datatypes.specs.Facts.{FieldsInRange, InRange, fieldsAt, typesIn}
-use Rattle.tables.specs.Layout.{typesOf}
+use Rattle.datatypes.specs.Facts.{FieldsInRange, InRange, columns, fieldsAt, typesIn}
+use Rattle.tables.proofs.Held.{held-many, held-type, held-variants}
 use Rattle.datatypes.proofs.Walks.{all-mapped, all-positions, any-mapped, from-start}
 
 module _ (many : ℕ) (variants first arities sorts : List ℕ) where
-  -- the variants of a type lie in a row
-  abbrev pub variantsAt : ℕ → List Variant
-  variantsAt t = map (λ v. fieldsAt arities sorts (getD first t 0 + v)) (from (getD variants t 0) 0)
-
-  pub types-many : length (typesIn many variants first arities sorts) ≡ many
-  unfolding typesOf
-  types-many = map-from-length _ many 0
-
-  pub variants-are : (t : ℕ) → t < many → variantsOf (typesIn many variants first arities sorts) t ≡ variantsAt t
-  unfolding typesOf fieldsAt
-  variants-are t h = map-from-at variantsAt many 0 t [] h ∙ ap variantsAt (zero-add t)
+  pub variants-are : (t : ℕ) → t < many
+      → variantsOf (typesIn many variants first arities sorts) t ≡ map (λ v. fieldsAt arities sorts (getD first t 0 + v)) (from (getD variants t 0) 0)
+  unfolding fieldsAt
+  variants-are t h = held-type (columns many variants first arities sorts) t h
 
   pub number-is : (t : ℕ) → t < many → isNumber (typesIn many variants first arities sorts) t ≡ eqb (getD variants t 0) 0
-  number-is t h = ap (λ (vs : List Variant). eqb (length vs) 0) (variants-are t h) ∙ ap (λ (k : ℕ). eqb k 0) (map-from-length _ (getD variants t 0) 0)
+  number-is t h = ap (λ (k : ℕ). eqb k 0) (held-variants (columns many variants first arities sorts) t h)
 
   pub fields-in-range : InRange many variants first arities sorts → FieldsInRange arities sorts
   fields-in-range r = record { few = r .arities; typed = λ w j h. omega (arith, r .many, r .sorts w j h) }
@@ -60,16 +52,13 @@ pub types-all : (many : ℕ) (variants first arities sorts : List ℕ) (q : List
     → all q (typesIn many variants first arities sorts) ≡ all (λ t. q (variantsOf (typesIn many variants first arities sorts) t)) (from (many - 0) 0)
 types-all many variants first arities sorts q =
     let ts : Types = typesIn many variants first arities sorts in
-    let e : length ts ≡ many - 0 = omega (arith, types-many many variants first arities sorts) in
+    let e : length ts ≡ many - 0 = omega (arith, held-many (columns many variants first arities sorts)) in
     all-positions q ts [] ∙ ap (λ (n : ℕ). all (λ t. q (variantsOf ts t)) (from n 0)) e
 
 -- what is in range in the columns is in range in the types
 module _ (many : ℕ) (variants first arities sorts : List ℕ) (r : InRange many variants first arities sorts) (t : ℕ) (h : t < many) where
   pub few-variants : length (variantsOf (typesIn many variants first arities sorts) t) ≤ variantLimit
-  few-variants =
-      let e : length (variantsOf (typesIn many variants first arities sorts) t) ≡ getD variants t 0 =
-      ap length (variants-are many variants first arities sorts t h) ∙ map-from-length (λ v. fieldsAt arities sorts (getD first t 0 + v)) (getD variants t 0) 0 in
-      omega (arith, r .variants t)
+  few-variants = omega (arith, held-variants (columns many variants first arities sorts) t h, r .variants t)
 
   pub fields-inside : All (All (λ f. f < length (typesIn many variants first arities sorts))) (variantsOf (typesIn many variants first arities sorts) t)
   unfolding fieldsAt
@@ -77,4 +66,4 @@ module _ (many : ℕ) (variants first arities sorts : List ℕ) (r : InRange man
       subst (All (All (λ f. f < length (typesIn many variants first arities sorts)))) (sym (variants-are many variants first arities sorts t h))
       (all-map (λ v. fieldsAt arities sorts (getD first t 0 + v)) (from (getD variants t 0) 0) (λ v m.
       all-map (λ j. getD sorts (3 * (getD first t 0 + v) + j) 0) (from (getD arities (getD first t 0 + v) 0) 0) (λ j k.
-      omega (arith, types-many many variants first arities sorts, r .sorts (getD first t 0 + v) j (omega (arith, from-bounds (getD arities (getD first t 0 + v) 0) 0 j k .1))))))
+      omega (arith, held-many (columns many variants first arities sorts), r .sorts (getD first t 0 + v) j (omega (arith, from-bounds (getD arities (getD first t 0 + v) 0) 0 j k .1))))))

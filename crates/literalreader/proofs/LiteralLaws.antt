@@ -10,13 +10,13 @@ use Rattle.guard.specs.Number.{Parsed, Parsed.accepted, Parsed.refused, Parser,
 use Rattle.guard.proofs.Repeats.{after, after-none, times-done, times-next, times-stop}
 use Rattle.tables.specs.Layout.{literalKind, literalOther, literalTable, literalTerm, pad}
 use Rattle.tables.proofs.Columns.{column-set}
-use Rattle.number.specs.Reader.{Says, below, belowAt}
-use Rattle.number.specs.declared.Number.{Number}
-use Rattle.number.proofs.NumberLaws.{count-is}
-use Rattle.number.proofs.Answers.{below-says, goes-on, says-accepted, says-refused, stops}
+use Rattle.numbers.specs.Reader.{Says, below, belowAt}
+use Rattle.numbers.specs.declared.Number.{Number}
+use Rattle.numbers.proofs.NumberLaws.{count-is}
+use Rattle.numbers.proofs.Answers.{below-says, goes-on, says-accepted, says-refused, stops}
 use Rattle.literalreader.specs.declared.LiteralRead.{LiteralRead}
 use Rattle.literalreader.specs.declared.Pair.{Pair}
-use Rattle.literalreader.specs.LiteralReader.{LiteralSays, PairSays, Two, asLiterals, literalBy, literalsAt, literalsBy, made, noLiterals, numbersBy}
+use Rattle.literalreader.specs.LiteralReader.{LiteralSays, PairSays, Two, asLiterals, literalBy, literalsAt, made, noLiterals, numbersBy}
 use Rattle.literalreader.proofs.PairLaws.{two}
 
 -- ---- a literal

@@ -1,5 +1,5 @@
 -- The parsers of literals are tidy: a refusal has a question. Assumes nothing.
-use mathlib.Core.Path.{_≡_, refl}
+use mathlib.Core.Path.{_≡_}
 use mathlib.Core.Bool.{not}
 use mathlib.Core.List.{List, [], _∷_}
 use Prim.Native.Nat.{ℕ, zero, suc, _≤_, _<_}
@@ -11,12 +11,8 @@ use Rattle.guard.specs.File.{count, ended, kind, literal, literalOf, name, term
 use Rattle.guard.specs.Guard.{Literal, Literal.equal, Literal.is, Literal.isnt, Literal.unequal, Row, typeAt}
 use Rattle.guard.specs.Number.{Parsed.accepted, Parsed.refused, return, times}
 use Rattle.guard.specs.Types.{Types, isNumber, variantsOf}
-use Rattle.number.proofs.Tidy.{Tidy, tidy-asked, tidy-below, tidy-bind, tidy-count, tidy-return, tidy-times}
+use Rattle.numbers.proofs.Tidy.{Any, Tidy, tidy-asked, tidy-below, tidy-bind, tidy-count, tidy-return, tidy-times}
 use Rattle.literalreader.specs.LiteralReader.{literalsBy}
-
--- of a value nothing is said
-abbrev Any : {A : Type 0} → A → Type 0
-Any a = Unit {0}
 
 module _ (ts : Types) (rs : List Row) (make : ℕ → ℕ → Literal) where
   tidy-two : Tidy (twoTerms ts rs make) Any

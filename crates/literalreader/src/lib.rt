@@ -44,11 +44,11 @@ fn read_two_terms(bytes: &[u8], at: usize, rows: usize, types: &[u8; 24]) -> Pai
     requires { ⌜ rows ≤ 24 ⌝ }
     ensures { λ r. ⌜ PairSays (now (bytes .entry)) (twoBy rows (now (types .entry)) (drop at (now (bytes .entry)))) r ⌝ }
 {
-    let a = number::read_below(bytes, at, rows as u32, 5);
+    let a = numbers::read_below(bytes, at, rows as u32, 5);
     if a.refused != 0 {
         return no_pair(a.refused);
     }
-    let b = number::read_below(bytes, a.at, rows as u32, 5);
+    let b = numbers::read_below(bytes, a.at, rows as u32, 5);
     if b.refused != 0 {
         return no_pair(b.refused);
     }
@@ -72,7 +72,7 @@ fn read_tested(bytes: &[u8], at: usize, counts: &[u8; 6], rows: usize, types: &[
     requires { ⌜ EachBelow 6 (now types) ⌝ }
     ensures { λ r. ⌜ PairSays (now (bytes .entry)) (testBy (now (counts .entry)) rows (now (types .entry)) (drop at (now (bytes .entry)))) r ⌝ }
 {
-    let a = number::read_below(bytes, at, rows as u32, 5);
+    let a = numbers::read_below(bytes, at, rows as u32, 5);
     if a.refused != 0 {
         return no_pair(a.refused);
     }
@@ -82,7 +82,7 @@ fn read_tested(bytes: &[u8], at: usize, counts: &[u8; 6], rows: usize, types: &[
     if many == 0 {
         return no_pair(7);
     }
-    let b = number::read_below(bytes, a.at, many as u32, 5);
+    let b = numbers::read_below(bytes, a.at, many as u32, 5);
     if b.refused != 0 {
         return no_pair(b.refused);
     }
@@ -138,7 +138,7 @@ fn read_literal(
     requires { ⌜ EachBelow 6 (now types) ⌝ }
     ensures { λ r. ⌜ LiteralSays (now (bytes .entry)) (literalBy (now (counts .entry)) rows (now (types .entry)) (drop at (now (bytes .entry)))) r ⌝ }
 {
-    let k = number::read_below(bytes, at, 4, 6);
+    let k = numbers::read_below(bytes, at, 4, 6);
     if k.refused != 0 {
         return no_literal(k.refused);
     }
@@ -185,7 +185,7 @@ pub fn read_literals(
     requires { ⌜ EachBelow 6 (now types) ⌝ }
     ensures { λ r. ⌜ r ≡ literalsAt (now (bytes .entry)) at limit (now (counts .entry)) rows (now (types .entry)) ⌝ }
 {
-    let n = number::read_below(bytes, at, limit + 1, 4);
+    let n = numbers::read_below(bytes, at, limit + 1, 4);
     if n.refused != 0 {
         return no_literals(n.refused);
     }

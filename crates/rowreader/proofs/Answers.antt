@@ -1,26 +1,28 @@
 -- The answers of the functions that read one row, question by question: a refused number refuses the row, and an accepted one
 -- leaves the rest of the row to be read from the next cursor on. Assumes nothing.
-use mathlib.Core.Path.{_≡_, refl, ap, sym, _∙_, subst}
-use mathlib.Core.Bool.{not}
+use mathlib.Core.Path.{_≡_, refl, ap, sym, _∙_}
+use mathlib.Core.Bool.{true, false, not}
 use mathlib.Core.List.{List, [], _∷_}
 use Prim.Native.Nat.{ℕ, suc, _+_, _*_, _-_, _≤_, _<_}
 use native.Mathlib.Omega.{arith}
 use lib.IntN.{pos}
 use lib.ListN.{length, drop, getD, take}
 use lib.Seq.{getD-take, length-take-le}
+use borrow.Author.Tests.{eq-eqb, ne-eqb}
 use Rattle.guard.specs.File.{name}
 use Rattle.guard.specs.Guard.{Row, Row.built, Row.constant, Row.field, Row.variable, typeOf}
 use Rattle.guard.specs.Number.{Parsed, Parsed.accepted, Parsed.refused, Parser, _>>=_, _>>_, andThen, ask, return, unfoldSigned, unsigned}
-use Rattle.guard.specs.Types.{Types, fieldType, fieldsOf, isNumber, variantsOf}
+use Rattle.guard.specs.Types.{Types, Variant, fieldType, fieldsOf, isNumber, variantsOf}
 use Rattle.rowreader.specs.ByTypes.{builtOf, builtRow, constantRow, fieldOf, fieldRow, partsBy, variableRow, variantTermBy}
 use Rattle.tables.specs.Layout.{pad, rowParts, rowValue, rowVariant, typesOf}
-use Rattle.number.specs.Reader.{asNumber, belowAt, found, numberAt, refusal}
+use Rattle.numbers.specs.Reader.{Says, asNumber, belowAt, found, numberAt, refusal}
 use Rattle.rowreader.specs.RowReader.{Before, asParts, asRow, fieldsFrom, noRowRead, partsAt, rowReadAt, rowWith, variantNumber, variantTermAt}
-use Rattle.number.proofs.NumberLaws.{below-found, below-refusal, number-found}
-use Rattle.rowreader.proofs.Steady.{Steady, cursor-back, steady-parts, steady-term}
-use Rattle.rowreader.proofs.Steps.{ask-no, ask-yes, is-number, is-variant, name-next, name-stop, number-next, number-stop}
-use Rattle.rowreader.proofs.TypesAt.{field-at, field-count, fields-at, many-of}
-use Rattle.number.specs.declared.Number.{Number}
+use Rattle.numbers.proofs.NumberLaws.{below-found, below-refusal}
+use Rattle.numbers.proofs.Answers.{ask-no, ask-yes, goes-on, name-next, name-stop, number-says, stops, tidy-good, tidy-says}
+use Rattle.numbers.proofs.Tidy.{answer-refused, answered, cursor-drop}
+use Rattle.rowreader.proofs.TidyRows.{tidy-parts, tidy-term}
+use Rattle.tables.proofs.Held.{held-arity, held-fields, held-many, held-sort, held-variants}
+use Rattle.numbers.specs.declared.Number.{Number}
 use Rattle.tables.specs.declared.TypeTable.{TypeTable}
 use Rattle.rowreader.specs.declared.PartsRead.{PartsRead}
 use Rattle.rowreader.specs.declared.RowRead.{RowRead}
@@ -38,30 +40,19 @@ module _ (ts : Types) (bytes : List ℕ) (at : ℕ) (p : Parser Row) where
 
   pub row-accepted : (r : Row) (next : ℕ) → next ≤ length bytes → p (drop at bytes) ≡ accepted r (drop next bytes) → foundRow ts r next ≡ rowWith ts bytes at p
   unfolding rowWith
-  row-accepted r next h e = ap (foundRow ts r) (sym (cursor-back bytes next h)) ∙ sym (ap (asRow ts bytes) e)
+  row-accepted r next h e = ap (foundRow ts r) (sym (cursor-drop bytes next h)) ∙ sym (ap (asRow ts bytes) e)
 
   -- the rest of the row decides
   pub row-rest : (next : ℕ) (p′ : Parser Row) → p (drop at bytes) ≡ p′ (drop next bytes) → rowWith ts bytes next p′ ≡ rowWith ts bytes at p
   unfolding rowWith
   row-rest next p′ e = sym (ap (asRow ts bytes) e)
 
--- a number that a parser gives
-module _ (p : Parser ℕ) (P : ℕ → Type 0) (steady : Steady p P) (bytes : List ℕ) (at : ℕ) (n : Number) (is : n ≡ asNumber bytes (p (drop at bytes))) where
-  pub given : n .refused ≡ 0 → (p (drop at bytes) ≡ accepted (n .value) (drop (n .at) bytes)) × P (n .value)
-  given z = go (p (drop at bytes)) refl is
-    where
-      go : (r : Parsed ℕ) → p (drop at bytes) ≡ r → n ≡ asNumber bytes r → (p (drop at bytes) ≡ accepted (n .value) (drop (n .at) bytes)) × P (n .value)
-      go (refused q) e f = absurd (omega (arith, steady .asks (drop at bytes) q e, ap (λ (x : Number). x .refused) f))
-      go (accepted v rest) e f =
-          subst (λ (x : Number). (p (drop at bytes) ≡ accepted (x .value) (drop (x .at) bytes)) × P (x .value)) (sym f)
-          (e ∙ ap (accepted v) (steady .leaves bytes at v rest e), steady .gives (drop at bytes) v rest e)
+-- "a number type": one with no variants
+is-number : (ts : Types) (t n : ℕ) → n ≡ length (variantsOf ts t) → n ≡ 0 → isNumber ts t ≡ true
+is-number ts t n e z = eq-eqb (length (variantsOf ts t)) 0 (omega arith)
 
-  pub not-given : ¬ (n .refused ≡ 0) → p (drop at bytes) ≡ refused (n .refused)
-  not-given z = go (p (drop at bytes)) refl is
-    where
-      go : (r : Parsed ℕ) → p (drop at bytes) ≡ r → n ≡ asNumber bytes r → p (drop at bytes) ≡ refused (n .refused)
-      go (refused q) e f = e ∙ ap refused (sym (ap (λ (x : Number). x .refused) f))
-      go (accepted v rest) e f = absurd (z (ap (λ (x : Number). x .refused) f))
+is-variant : (ts : Types) (t n : ℕ) → n ≡ length (variantsOf ts t) → ¬ (n ≡ 0) → isNumber ts t ≡ false
+is-variant ts t n e z = ne-eqb (length (variantsOf ts t)) 0 (λ x. z (omega arith))
 
 -- ---- rows that begin with a type
 
@@ -71,7 +62,7 @@ module _ (table : TypeTable) (bytes : List ℕ) (at : ℕ) (t : Number) (is : t 
 
   -- whatever follows
   type-stop : (f : ℕ → Parser Row) → ¬ (t .refused ≡ 0) → noRowRead (t .refused) ≡ rowWith (typesOf table) bytes at (name (length (typesOf table)) >>= f)
-  type-stop f h = row-refused (typesOf table) bytes at _ (t .refused) (name-stop f bytes at (table .many) t is (length (typesOf table)) (many-of table) h)
+  type-stop f h = row-refused (typesOf table) bytes at _ (t .refused) (name-stop f bytes at (table .many) t is (length (typesOf table)) (held-many table) h)
 
   pub variable-stop : ¬ (t .refused ≡ 0) → noRowRead (t .refused) ≡ rowWith (typesOf table) bytes at (variableRow (typesOf table))
   variable-stop = type-stop (λ t. return (variable t))
@@ -79,7 +70,7 @@ module _ (table : TypeTable) (bytes : List ℕ) (at : ℕ) (t : Number) (is : t 
   pub variable-found : t .refused ≡ 0 → foundRow (typesOf table) (variable (t .value)) (t .at) ≡ rowWith (typesOf table) bytes at (variableRow (typesOf table))
   variable-found h =
       row-accepted (typesOf table) bytes at _ (variable (t .value)) (t .at) (below-found bytes at (table .many) 5 (omega arith) t is h .within)
-      (name-next (λ t. return (variable t)) bytes at (table .many) t is (length (typesOf table)) (many-of table) h)
+      (name-next (λ t. return (variable t)) bytes at (table .many) t is (length (typesOf table)) (held-many table) h)
 
   abbrev constantAfter : ℕ → Parser Row
   constantAfter t = ask 7 (isNumber (typesOf table) t) >> (unsigned >>= λ n. return (constant t (unfoldSigned n)))
@@ -95,7 +86,7 @@ module _ (table : TypeTable) (bytes : List ℕ) (at : ℕ) (t : Number) (is : t 
 
   module _ (typed : t .refused ≡ 0) (n : ℕ) (counted : n ≡ length (variantsOf (typesOf table) (t .value))) where
     type-next : (f : ℕ → Parser Row) → (name (length (typesOf table)) >>= f) (drop at bytes) ≡ f (t .value) (drop (t .at) bytes)
-    type-next f = name-next f bytes at (table .many) t is (length (typesOf table)) (many-of table) typed
+    type-next f = name-next f bytes at (table .many) t is (length (typesOf table)) (held-many table) typed
 
     pub constant-variant : ¬ (n ≡ 0) → noRowRead 7 ≡ rowWith (typesOf table) bytes at (constantRow (typesOf table))
     constant-variant h =
@@ -111,12 +102,12 @@ module _ (table : TypeTable) (bytes : List ℕ) (at : ℕ) (t : Number) (is : t 
 
       pub constant-short : ¬ (v .refused ≡ 0) → noRowRead (v .refused) ≡ rowWith (typesOf table) bytes at (constantRow (typesOf table))
       constant-short h =
-          row-refused (typesOf table) bytes at _ (v .refused) (to-value ∙ number-stop (λ n. return (constant (t .value) (unfoldSigned n))) bytes (t .at) v valued h)
+          row-refused (typesOf table) bytes at _ (v .refused) (to-value ∙ stops (λ n. return (constant (t .value) (unfoldSigned n))) bytes _ (v .refused) (v .at) (v .value) (number-says bytes (t .at) v valued) h)
 
       pub constant-found : v .refused ≡ 0 → foundRow (typesOf table) (constant (t .value) (unfoldSigned (v .value))) (v .at) ≡ rowWith (typesOf table) bytes at (constantRow (typesOf table))
       constant-found h =
-          row-accepted (typesOf table) bytes at _ (constant (t .value) (unfoldSigned (v .value))) (v .at) (number-found bytes (t .at) v valued h .within)
-          (to-value ∙ number-next (λ n. return (constant (t .value) (unfoldSigned n))) bytes (t .at) v valued h)
+          row-accepted (typesOf table) bytes at _ (constant (t .value) (unfoldSigned (v .value))) (v .at) (number-says bytes (t .at) v valued .within h)
+          (to-value ∙ goes-on (λ n. return (constant (t .value) (unfoldSigned n))) bytes _ (v .refused) (v .at) (v .value) (number-says bytes (t .at) v valued) h)
 
     pub built-number : (us : List ℕ) → n ≡ 0 → noRowRead 7 ≡ rowWith (typesOf table) bytes at (builtRow (typesOf table) us)
     built-number us h =
@@ -158,41 +149,40 @@ module _ (table : TypeTable) (bytes : List ℕ) (at t n : ℕ) (typed : t < tabl
   field-no-variant a = variant-stop (positionAfter a)
 
   module _ (chosen : v .refused ≡ 0) (w : ℕ) (numbered : w ≡ variantNumber table t (v .value)) where
+    in-variants : v .value < getD (table .variants) t 0
+    in-variants = omega (arith, variant-small chosen, held-variants table t typed)
+
     fields-are : fieldsOf (typesOf table) t (v .value) ≡ fieldsFrom (table .sorts) w (getD (table .arities) w 0) 0
-    fields-are = fields-at table t (v .value) typed (variant-small chosen) ∙ ap (λ (w : ℕ). fieldsFrom (table .sorts) w (getD (table .arities) w 0) 0) (sym numbered)
+    fields-are = held-fields table t typed (v .value) in-variants ∙ ap (λ (w : ℕ). fieldsFrom (table .sorts) w (getD (table .arities) w 0) 0) (sym numbered)
 
     arity-is : length (fieldsOf (typesOf table) t (v .value)) ≡ getD (table .arities) w 0
-    arity-is = field-count table t (v .value) typed (variant-small chosen) ∙ ap (λ (w : ℕ). getD (table .arities) w 0) (sym numbered)
+    arity-is = held-arity table t typed (v .value) in-variants ∙ ap (λ (w : ℕ). getD (table .arities) w 0) (sym numbered)
 
     -- the parts of a built row
     module _ (us : List ℕ) (p : PartsRead) (parted : p ≡ partsAt bytes (v .at) us (fieldsFrom (table .sorts) w (getD (table .arities) w 0) 0)) where
-      by-fields : p ≡ partsAt bytes (v .at) us (fieldsOf (typesOf table) t (v .value))
+      abbrev fields : Variant
+      fields = fieldsOf (typesOf table) t (v .value)
+
+      by-fields : p ≡ partsAt bytes (v .at) us fields
       by-fields = parted ∙ ap (partsAt bytes (v .at) us) (sym fields-are)
 
-      from-parts : (r : Parsed (List ℕ)) → partsBy us (fieldsOf (typesOf table) t (v .value)) (drop (v .at) bytes) ≡ r
+      from-parts : (r : Parsed (List ℕ)) → partsBy us fields (drop (v .at) bytes) ≡ r
           → builtOf (typesOf table) us t (drop at bytes) ≡ andThen (λ ps. return (built t (v .value) ps)) r
       from-parts r e = variant-next (partsAfter us) chosen ∙ ap (andThen (λ ps. return (built t (v .value) ps))) e
 
       pub built-no-parts : ¬ (p .refused ≡ 0) → noRowRead (p .refused) ≡ rowWith (typesOf table) bytes at (builtOf (typesOf table) us t)
       unfolding partsAt
-      built-no-parts h = go (partsBy us (fieldsOf (typesOf table) t (v .value)) (drop (v .at) bytes)) refl by-fields
-        where
-          go : (r : Parsed (List ℕ)) → partsBy us (fieldsOf (typesOf table) t (v .value)) (drop (v .at) bytes) ≡ r → p ≡ asParts bytes r
-              → noRowRead (p .refused) ≡ rowWith (typesOf table) bytes at (builtOf (typesOf table) us t)
-          go (refused q) e f = ap (λ (x : PartsRead). noRowRead (x .refused)) f ∙ row-refused (typesOf table) bytes at _ q (from-parts (refused q) e)
-          go (accepted ps rest) e f = absurd (h (ap (λ (x : PartsRead). x .refused) f))
+      built-no-parts h =
+          row-refused (typesOf table) bytes at _ (p .refused) (from-parts (refused (p .refused))
+          (answer-refused (partsBy us fields) (λ ps. length ps ≡ length fields) (tidy-parts us fields) bytes (v .at) (asParts bytes) (λ x. x .at) (λ x. x .refused) (λ q. refl) (λ ps rest. (refl, refl)) p by-fields h))
 
       pub built-found : p .refused ≡ 0
           → Path RowRead (record { refused = 0; at = p .at; sort = t; variant = v .value; parts = p .parts; value = pos 0 }) (rowWith (typesOf table) bytes at (builtOf (typesOf table) us t))
       unfolding partsAt rowWith
-      built-found h = go (partsBy us (fieldsOf (typesOf table) t (v .value)) (drop (v .at) bytes)) refl by-fields
-        where
-          go : (r : Parsed (List ℕ)) → partsBy us (fieldsOf (typesOf table) t (v .value)) (drop (v .at) bytes) ≡ r → p ≡ asParts bytes r
-              → Path RowRead (record { refused = 0; at = p .at; sort = t; variant = v .value; parts = p .parts; value = pos 0 }) (rowWith (typesOf table) bytes at (builtOf (typesOf table) us t))
-          go (refused q) e f = absurd (omega (arith, steady-parts us (fieldsOf (typesOf table) t (v .value)) .asks (drop (v .at) bytes) q e, ap (λ (x : PartsRead). x .refused) f))
-          go (accepted ps rest) e f =
-              ap (λ (x : PartsRead). record { refused = 0; at = x .at; sort = t; variant = v .value; parts = x .parts; value = pos 0 }) f
-              ∙ sym (ap (asRow (typesOf table) bytes) (from-parts (accepted ps rest) e))
+      built-found h =
+          let a = answered (partsBy us fields) (λ ps. length ps ≡ length fields) (tidy-parts us fields) bytes (v .at) (asParts bytes) (λ x. x .at) (λ x. x .refused) (λ q. refl) (λ ps rest. (refl, refl)) p by-fields h in
+          ap (λ (x : PartsRead). record { refused = 0; at = x .at; sort = t; variant = v .value; parts = x .parts; value = pos 0 }) (a .is)
+          ∙ sym (ap (asRow (typesOf table) bytes) (from-parts (accepted (a .value) (drop (p .at) bytes)) (a .parsed)))
 
     -- the position of a field read
     module _ (a : ℕ) (p : Number) (placed : p ≡ belowAt bytes (v .at) (getD (table .arities) w 0) 5) where
@@ -216,7 +206,7 @@ module _ (table : TypeTable) (bytes : List ℕ) (at t n : ℕ) (typed : t < tabl
           sort-is : getD (table .sorts) (3 * w + p .value) 0 ≡ fieldType (typesOf table) t (v .value) (p .value)
           sort-is =
               ap (λ (w : ℕ). getD (table .sorts) (3 * w + p .value) 0) numbered
-              ∙ sym (field-at table t (v .value) typed (variant-small chosen) (p .value) (omega (arith, position-small h, arity-is)))
+              ∙ sym (held-sort table t typed (v .value) in-variants (p .value) (omega (arith, position-small h, ap (λ (w : ℕ). getD (table .arities) w 0) numbered)))
 
 -- ---- a term of variant type, and its field
 
@@ -257,7 +247,7 @@ module _ (table : TypeTable) (rows : ℕ) (types : List ℕ) (before : Before ta
       unfolding variantTermAt
       term-found h =
           ap (λ (q : ℕ). record { refused = q; value = a .value; at = a .at }) named
-          ∙ ap (found (a .value)) (sym (cursor-back bytes (a .at) (below-found bytes at rows 5 (omega arith) a is named .within)))
+          ∙ ap (found (a .value)) (sym (cursor-drop bytes (a .at) (below-found bytes at rows 5 (omega arith) a is named .within)))
           ∙ sym (ap (asNumber bytes) (term-next
           ∙ ask-yes (return (a .value)) (drop (a .at) bytes) 7 _ (ap not (is-variant (typesOf table) (getD (take rows types) (a .value) 0) n counted-by h))))
 
@@ -265,23 +255,22 @@ module _ (table : TypeTable) (rows : ℕ) (types : List ℕ) (before : Before ta
     abbrev fieldAfter : ℕ → Parser Row
     fieldAfter a = fieldOf (typesOf table) (getD (take rows types) a 0) a
 
-    read-is : a ≡ asNumber bytes (variantTermBy (typesOf table) (take rows types) (drop at bytes))
+    reads : Says bytes (variantTermBy (typesOf table) (take rows types) (drop at bytes)) (a .refused) (a .at) (a .value)
     unfolding variantTermAt
-    read-is = is
+    reads = tidy-says (variantTermBy (typesOf table) (take rows types)) _ (tidy-term (typesOf table) (take rows types)) bytes at a is
 
     pub field-stop : ¬ (a .refused ≡ 0) → noRowRead (a .refused) ≡ rowWith (typesOf table) bytes at (fieldRow (typesOf table) (take rows types))
-    field-stop h =
-        row-refused (typesOf table) bytes at _ (a .refused)
-        (ap (andThen fieldAfter) (not-given (variantTermBy (typesOf table) (take rows types)) _ (steady-term (typesOf table) (take rows types)) bytes at a read-is h))
+    field-stop h = row-refused (typesOf table) bytes at _ (a .refused) (stops fieldAfter bytes _ (a .refused) (a .at) (a .value) reads h)
 
     pub term-read-small : a .refused ≡ 0 → a .value < rows
-    term-read-small h = omega (arith, before-length, given (variantTermBy (typesOf table) (take rows types)) _ (steady-term (typesOf table) (take rows types)) bytes at a read-is h .1)
+    unfolding variantTermAt
+    term-read-small h = omega (arith, before-length, tidy-good (variantTermBy (typesOf table) (take rows types)) _ (tidy-term (typesOf table) (take rows types)) bytes at a is h)
 
     pub field-rest : a .refused ≡ 0
         → rowWith (typesOf table) bytes (a .at) (fieldOf (typesOf table) (getD types (a .value) 0) (a .value)) ≡ rowWith (typesOf table) bytes at (fieldRow (typesOf table) (take rows types))
     field-rest h =
         row-rest (typesOf table) bytes at _ (a .at) (fieldOf (typesOf table) (getD types (a .value) 0) (a .value))
-        (ap (andThen fieldAfter) (given (variantTermBy (typesOf table) (take rows types)) _ (steady-term (typesOf table) (take rows types)) bytes at a read-is h .0)
+        (goes-on fieldAfter bytes _ (a .refused) (a .at) (a .value) reads h
         ∙ ap (λ (t : ℕ). fieldOf (typesOf table) t (a .value) (drop (a .at) bytes)) (before-at (a .value) (term-read-small h)))
 
 -- ---- by kind

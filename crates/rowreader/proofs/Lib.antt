@@ -1,7 +1,5 @@
-pub mod TypesAt
 pub mod SameRows
-pub mod Steady
-pub mod Steps
+pub mod TidyRows
 pub mod Answers
 pub mod PartLaws
 pub mod RowLaws

@@ -13,13 +13,13 @@ use Rattle.guard.specs.Number.{Parsed, Parsed.accepted, Parsed.refused, Parser,
 use Rattle.guard.proofs.Repeats.{after, after-none}
 use Rattle.rowreader.specs.ByTypes.{partsBy}
 use Rattle.tables.specs.Layout.{pad}
-use Rattle.number.specs.Reader.{belowAt}
+use Rattle.numbers.specs.Reader.{belowAt}
 use Rattle.rowreader.specs.RowReader.{asParts, fieldsFrom, noParts, partsAt}
 use Rattle.tables.proofs.Columns.{pad-set}
-use Rattle.number.proofs.NumberLaws.{below-found}
-use Rattle.rowreader.proofs.Steady.{cursor-back}
-use Rattle.rowreader.proofs.Steps.{ask-no, ask-yes, name-next, name-stop}
-use Rattle.number.specs.declared.Number.{Number}
+use Rattle.numbers.proofs.NumberLaws.{below-found}
+use Rattle.numbers.proofs.Tidy.{cursor-drop}
+use Rattle.numbers.proofs.Answers.{ask-no, ask-yes, name-next, name-stop}
+use Rattle.numbers.specs.declared.Number.{Number}
 use Rattle.rowreader.specs.declared.PartsRead.{PartsRead}
 
 -- between two turns of the loop: at the cursor `next`, before field j
@@ -67,7 +67,7 @@ module _ (bytes : List ℕ) (at rows : ℕ) (types sorts : List ℕ) (w arity : 
         ap (λ (l : List ℕ). accepted l (drop next bytes)) (sym (append-nil (s .got)))
         ∙ ap (λ (k : ℕ). after (s .got) (partsBy us (fieldsFrom sorts w k j) (drop next bytes))) (sym z) ∙ s .left in
         ap (λ (l : List ℕ). record { refused = 0; at = next; parts = l }) (s .column)
-        ∙ ap (λ (k : ℕ). record { refused = 0; at = k; parts = pad 3 (s .got) }) (sym (cursor-back bytes next (s .within)))
+        ∙ ap (λ (k : ℕ). record { refused = 0; at = k; parts = pad 3 (s .got) }) (sym (cursor-drop bytes next (s .within)))
         ∙ ap (asParts bytes) e
 
     module _ (more : j < arity) (n : Number) (is : n ≡ belowAt bytes next rows 5) where

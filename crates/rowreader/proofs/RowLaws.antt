@@ -13,21 +13,22 @@ use Rattle.laws.specs.Lists.{concatMap}
 use Rattle.laws.proofs.Lists.{all-append, all-getD, all-weaken, map-length}
 use Rattle.guard.specs.File.{count, kind, rowOf, rows}
 use Rattle.guard.specs.Guard.{Row, Row.built, Row.constant, Row.field, Row.variable, noRow, typeOf}
-use Rattle.guard.specs.Number.{Parsed, Parsed.accepted, Parsed.refused, andThen}
+use Rattle.guard.specs.Number.{Parsed, Parsed.refused, andThen}
 use Rattle.guard.specs.Types.{Types}
 use Rattle.guard.proofs.Repeats.{rows-next, rows-stop-kind, rows-stop-row}
 use Rattle.rowreader.specs.ByTypes.{rowBy}
 use Rattle.tables.specs.Layout.{TypesInRange, pad, padTo, rowKind, rowParts, rowTable, rowValue, rowVariant, typesOf}
-use Rattle.number.specs.Reader.{below, belowAt}
+use Rattle.numbers.specs.Reader.{below, belowAt}
 use Rattle.rowreader.specs.RowReader.{Before, asRow, asRows, noRows, rowReadAt, rowsAt, rowsFrom, stored}
 use Rattle.rowreader.proofs.Answers.{foundRow}
 use Rattle.tables.proofs.Columns.{pad-at, pad-length, pad-set}
 use Rattle.tables.proofs.Lookups.{map-at, triples-length}
-use Rattle.number.proofs.NumberLaws.{Found, below-found, below-refused, count-is}
+use Rattle.numbers.proofs.NumberLaws.{Found, below-found, below-refused, count-is}
 use Rattle.rowreader.proofs.SameRows.{row-by}
-use Rattle.rowreader.proofs.Steady.{RowShape, cursor-back, steady-row}
-use Rattle.rowreader.proofs.TypesAt.{fields-few, fields-small, many-of}
-use Rattle.number.specs.declared.Number.{Number}
+use Rattle.numbers.proofs.Tidy.{Answer, answer-refused, answered, cursor-drop}
+use Rattle.rowreader.proofs.TidyRows.{RowShape, tidy-row}
+use Rattle.tables.proofs.Held.{fields-few, fields-small, held-many}
+use Rattle.numbers.specs.declared.Number.{Number}
 use Rattle.tables.specs.declared.TypeTable.{TypeTable}
 use Rattle.tables.specs.declared.RowTable.{RowTable}
 use Rattle.rowreader.specs.declared.RowRead.{RowRead}
@@ -113,40 +114,17 @@ unfolding rowTable
 types-column ts rs = refl
 
 -- a row that the code read
-pub record RowGiven (bytes : List ℕ) (at : ℕ) (ts : Types) (us : List ℕ) (k : ℕ) (r : RowRead) : Type 0 where
-  pub row : Row
-  pub parsed : rowBy ts us k (drop at bytes) ≡ accepted row (drop (r .at) bytes)
-  pub is : r ≡ foundRow ts row (r .at)
-  pub within : r .at ≤ length bytes
-  pub shape : RowShape ts row
-  pub kinded : k < 4 → rowKind row ≡ k
-
 module _ (bytes : List ℕ) (at : ℕ) (ts : Types) (us : List ℕ) (k : ℕ) (r : RowRead) (is : r ≡ rowReadAt bytes at ts us k) where
-  pub row-given : r .refused ≡ 0 → RowGiven bytes at ts us k r
-  unfolding rowReadAt
-  row-given z = go (rowBy ts us k (drop at bytes)) refl is
-    where
-      go : (p : Parsed Row) → rowBy ts us k (drop at bytes) ≡ p → r ≡ asRow ts bytes p → RowGiven bytes at ts us k r
-      go (refused q) e f = absurd (omega (arith, steady-row ts us k .asks (drop at bytes) q e, ap (λ (x : RowRead). x .refused) f))
-      go (accepted o rest) e f =
-          let g = steady-row ts us k .gives (drop at bytes) o rest e in
-          subst (RowGiven bytes at ts us k) (sym f)
-          (record {
-            row = o;
-            parsed = e ∙ ap (accepted o) (steady-row ts us k .leaves bytes at o rest e);
-            is = refl;
-            within = omega arith;
-            shape = g .0;
-            kinded = g .1;
-          })
+  abbrev Good : Row → Type 0
+  Good o = RowShape ts o × (k < 4 → rowKind o ≡ k)
 
-  pub row-not-given : ¬ (r .refused ≡ 0) → rowBy ts us k (drop at bytes) ≡ refused (r .refused)
+  row-given : r .refused ≡ 0 → Answer (rowBy ts us k) Good bytes at (asRow ts bytes) (r .at) r
   unfolding rowReadAt
-  row-not-given z = go (rowBy ts us k (drop at bytes)) refl is
-    where
-      go : (p : Parsed Row) → rowBy ts us k (drop at bytes) ≡ p → r ≡ asRow ts bytes p → rowBy ts us k (drop at bytes) ≡ refused (r .refused)
-      go (refused q) e f = e ∙ ap refused (sym (ap (λ (x : RowRead). x .refused) f))
-      go (accepted o rest) e f = absurd (z (ap (λ (x : RowRead). x .refused) f))
+  row-given z = answered (rowBy ts us k) Good (tidy-row ts us k) bytes at (asRow ts bytes) (λ x. x .at) (λ x. x .refused) (λ q. refl) (λ o rest. (refl, refl)) r is z
+
+  row-not-given : ¬ (r .refused ≡ 0) → rowBy ts us k (drop at bytes) ≡ refused (r .refused)
+  unfolding rowReadAt
+  row-not-given z = answer-refused (rowBy ts us k) Good (tidy-row ts us k) bytes at (asRow ts bytes) (λ x. x .at) (λ x. x .refused) (λ q. refl) (λ o rest. (refl, refl)) r is z
 
 -- its type is a type, and its parts have three places
 shape-fits : (table : TypeTable) → TypesInRange table → (r : Row) → RowShape (typesOf table) r → Fitting (typesOf table) r
@@ -177,12 +155,12 @@ module _ (bytes : List ℕ) (at n : ℕ) (table : TypeTable) where
     rows-done h =
         let z : 0 ≡ n - i = omega arith in
         ap (λ (x : RowTable). record { refused = 0; at = next; rows = x }) (s .is)
-        ∙ ap (λ (k : ℕ). record { refused = 0; at = k; rows = rowTable (typesOf table) (s .got) }) (sym (cursor-back bytes next (s .within)))
+        ∙ ap (λ (k : ℕ). record { refused = 0; at = k; rows = rowTable (typesOf table) (s .got) }) (sym (cursor-drop bytes next (s .within)))
         ∙ ap (asRows (typesOf table) bytes) (ap (λ (k : ℕ). rows k (typesOf table) (s .got) (drop next bytes)) z ∙ s .left)
 
-    pub held-many : held .many ≡ i
+    pub rows-many : held .many ≡ i
     unfolding rowTable
-    held-many = ap (λ (x : RowTable). x .many) (s .is) ∙ s .many
+    rows-many = ap (λ (x : RowTable). x .many) (s .is) ∙ s .many
 
     module _ (another : i < n) where
       column : held .types ≡ pad 24 (map (typeOf (typesOf table)) (s .got))
@@ -205,7 +183,7 @@ module _ (bytes : List ℕ) (at n : ℕ) (table : TypeTable) where
               ∙ map-at (typeOf (typesOf table)) (s .got) p noRow 0 (omega (arith, s .many))
 
           at-row : (p : ℕ) → p < i → typeOf (typesOf table) (getD (s .got) p noRow) < table .many
-          at-row p h = omega (arith, many-of table, all-getD (s .fit) p noRow (omega (arith, s .many)) .0)
+          at-row p h = omega (arith, held-many table, all-getD (s .fit) p noRow (omega (arith, s .many)) .0)
 
       -- the front of the column is the types of the rows
       front : take i (held .types) ≡ map (typeOf (typesOf table)) (s .got)
@@ -247,20 +225,20 @@ module _ (bytes : List ℕ) (at n : ℕ) (table : TypeTable) where
             row-next h =
                 let g = row-given bytes (k .at) (typesOf table) (take i (held .types)) (k .value) r row-is h in
                 let o : i + 1 ≡ suc i = omega arith in
-                let f = shape-fits table range (g .row) (g .shape) in
+                let f = shape-fits table range (g .value) (g .good .0) in
                 record {
-                  got = s .got ++ (g .row ∷ []);
-                  many = omega (arith, length-append (s .got) (g .row ∷ []), s .many);
+                  got = s .got ++ (g .value ∷ []);
+                  many = omega (arith, length-append (s .got) (g .value ∷ []), s .many);
                   is =
                       ap (λ (x : RowTable). stored x (k .value) r) (s .is)
-                      ∙ ap (λ (q : ℕ). stored (rowTable (typesOf table) (s .got)) q r) (sym (g .kinded kind-small))
-                      ∙ ap (stored (rowTable (typesOf table) (s .got)) (rowKind (g .row))) (g .is)
-                      ∙ stored-next (typesOf table) (s .got) (g .row) (omega (arith, s .many)) (s .fit) (f .1) (r .at);
+                      ∙ ap (λ (q : ℕ). stored (rowTable (typesOf table) (s .got)) q r) (sym (g .good .1 kind-small))
+                      ∙ ap (stored (rowTable (typesOf table) (s .got)) (rowKind (g .value))) (g .is)
+                      ∙ stored-next (typesOf table) (s .got) (g .value) (omega (arith, s .many)) (s .fit) (f .1) _;
                   fit = all-append (s .fit) (more f none);
                   within = g .within;
                   left =
-                      ap (λ (k : ℕ). rows (n - k) (typesOf table) (s .got ++ (g .row ∷ [])) (drop (r .at) bytes)) o
-                      ∙ sym (rows-next again (typesOf table) (s .got) (drop next bytes) (k .value) (drop (k .at) bytes) (kind-read .parsed) (g .row) (drop (r .at) bytes) (by-rows ∙ g .parsed))
+                      ap (λ (k : ℕ). rows (n - k) (typesOf table) (s .got ++ (g .value ∷ [])) (drop (r .at) bytes)) o
+                      ∙ sym (rows-next again (typesOf table) (s .got) (drop next bytes) (k .value) (drop (k .at) bytes) (kind-read .parsed) (g .value) (drop (r .at) bytes) (by-rows ∙ g .parsed))
                       ∙ one-more;
                 }
 

@@ -9,8 +9,8 @@ use Rattle.guard.specs.File.{count, rows}
 use Rattle.guard.specs.Guard.{Row, typeOf}
 use Rattle.guard.specs.Number.{Parsed, Parsed.accepted, Parsed.refused, Parser, _>>=_}
 use Rattle.guard.specs.Types.{Types, Variant}
-use Rattle.number.specs.declared.Number.{Number}
-use Rattle.number.specs.Reader.{asNumber}
+use Rattle.numbers.specs.declared.Number.{Number}
+use Rattle.numbers.specs.Reader.{asNumber}
 use Rattle.tables.specs.declared.RowTable.{RowTable}
 use Rattle.tables.specs.declared.TypeTable.{TypeTable}
 use Rattle.tables.specs.Layout.{pad, rowParts, rowTable, rowValue, rowVariant}

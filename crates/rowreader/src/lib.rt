@@ -1,7 +1,7 @@
 // The term rows of a guard file, read into their table. Document 01: a row has a kind, then a variable's type; a
 // constant's type and value; a built row's type, variant and parts; or the term, variant and position of a field read.
 // A row names only rows before it.
-use number::Number;
+use numbers::Number;
 use tables::RowTable;
 use tables::TypeTable;
 ghost use mathlib.Core.Path.{_≡_};
@@ -95,7 +95,7 @@ fn read_parts(
     let mut next = at;
     let mut j: usize = 0;
     while j < arity {
-        let p = number::read_below(bytes, next, limit, 5);
+        let p = numbers::read_below(bytes, next, limit, 5);
         if p.refused != 0 {
             return refuse_parts(p.refused);
         }
@@ -122,7 +122,7 @@ fn read_variable(bytes: &[u8], at: usize, table: TypeTable) -> RowRead
     ensures { λ r. ⌜ r ≡ rowWith (typesOf table) (now (bytes .entry)) at (variableRow (typesOf table)) ⌝ }
 {
     let many = table.many as u32;
-    let t = number::read_below(bytes, at, many, 5);
+    let t = numbers::read_below(bytes, at, many, 5);
     if t.refused != 0 {
         return refuse_row(t.refused);
     }
@@ -142,7 +142,7 @@ fn read_constant(bytes: &[u8], at: usize, table: TypeTable) -> RowRead
     ensures { λ r. ⌜ r ≡ rowWith (typesOf table) (now (bytes .entry)) at (constantRow (typesOf table)) ⌝ }
 {
     let many = table.many as u32;
-    let t = number::read_below(bytes, at, many, 5);
+    let t = numbers::read_below(bytes, at, many, 5);
     if t.refused != 0 {
         return refuse_row(t.refused);
     }
@@ -150,7 +150,7 @@ fn read_constant(bytes: &[u8], at: usize, table: TypeTable) -> RowRead
     if variants != 0 {
         return refuse_row(7);
     }
-    let n = number::read_number(bytes, t.at);
+    let n = numbers::read_number(bytes, t.at);
     if n.refused != 0 {
         return refuse_row(n.refused);
     }
@@ -161,7 +161,7 @@ fn read_constant(bytes: &[u8], at: usize, table: TypeTable) -> RowRead
         sort: t.value as u8,
         variant: 0,
         parts: none,
-        value: number::unfold_signed(n.value),
+        value: numbers::unfold_signed(n.value),
     }
 }
 
@@ -178,7 +178,7 @@ fn built_of(
     ensures { λ r. ⌜ r ≡ rowWith (typesOf table) (now (bytes .entry)) at (builtOf (typesOf table) (take rows (now (types .entry))) t) ⌝ }
 {
     let variants = variants_of(table, t);
-    let v = number::read_below(bytes, at, variants, 5);
+    let v = numbers::read_below(bytes, at, variants, 5);
     if v.refused != 0 {
         return refuse_row(v.refused);
     }
@@ -204,7 +204,7 @@ fn read_built(bytes: &[u8], at: usize, rows: usize, types: &[u8; 24], table: Typ
     ensures { λ r. ⌜ r ≡ rowWith (typesOf table) (now (bytes .entry)) at (builtRow (typesOf table) (take rows (now (types .entry)))) ⌝ }
 {
     let many = table.many as u32;
-    let t = number::read_below(bytes, at, many, 5);
+    let t = numbers::read_below(bytes, at, many, 5);
     if t.refused != 0 {
         return refuse_row(t.refused);
     }
@@ -226,7 +226,7 @@ fn read_variant_term(
     requires { ⌜ TypesInRange table × Before table rows (now types) ⌝ }
     ensures { λ r. ⌜ r ≡ variantTermAt (now (bytes .entry)) at (typesOf table) (take rows (now (types .entry))) ⌝ }
 {
-    let a = number::read_below(bytes, at, rows as u32, 5);
+    let a = numbers::read_below(bytes, at, rows as u32, 5);
     if a.refused != 0 {
         return a;
     }
@@ -248,13 +248,13 @@ fn field_of(bytes: &[u8], at: usize, table: TypeTable, t: usize, term: u8) -> Ro
     ensures { λ r. ⌜ r ≡ rowWith (typesOf table) (now (bytes .entry)) at (fieldOf (typesOf table) t term) ⌝ }
 {
     let variants = variants_of(table, t);
-    let v = number::read_below(bytes, at, variants, 5);
+    let v = numbers::read_below(bytes, at, variants, 5);
     if v.refused != 0 {
         return refuse_row(v.refused);
     }
     let w = variant_number(table, t, v.value as usize);
     let arity = table.arities[w] as u32;
-    let p = number::read_below(bytes, v.at, arity, 5);
+    let p = numbers::read_below(bytes, v.at, arity, 5);
     if p.refused != 0 {
         return refuse_row(p.refused);
     }
@@ -356,7 +356,7 @@ fn read_n_rows(bytes: &[u8], at: usize, n: usize, table: TypeTable) -> RowsRead
     let mut next = at;
     let mut i: usize = 0;
     while i < n {
-        let k = number::read_below(bytes, next, 4, 6);
+        let k = numbers::read_below(bytes, next, 4, 6);
         if k.refused != 0 {
             return refuse_rows(k.refused);
         }
@@ -380,7 +380,7 @@ pub fn read_rows(bytes: &[u8], at: usize, limit: u32, table: TypeTable) -> RowsR
     requires { ⌜ TypesInRange table × (limit ≤ 24) ⌝ }
     ensures { λ r. ⌜ r ≡ rowsAt (now (bytes .entry)) at limit (typesOf table) ⌝ }
 {
-    let n = number::read_below(bytes, at, limit + 1, 4);
+    let n = numbers::read_below(bytes, at, limit + 1, 4);
     if n.refused != 0 {
         return refuse_rows(n.refused);
     }

@@ -13,7 +13,7 @@ use Rattle.guard.specs.Types.{Types, Variant}
 use Rattle.guard.proofs.Repeats.{after, after-none, times-done, times-next, times-stop, types-next, types-stop-count, types-stop-variants, variantCount}
 use Rattle.tables.specs.Layout.{flat}
 use Rattle.typereader.specs.TypeReader.{oneType}
-use Rattle.number.proofs.Tidy.{tidy-times}
+use Rattle.numbers.proofs.Tidy.{tidy-times}
 use Rattle.typereader.proofs.TidyTypes.{VariantFits, tidy-variant}
 
 module _ {A : Type 0} where

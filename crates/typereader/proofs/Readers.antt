@@ -11,15 +11,15 @@ use Rattle.guard.specs.Number.{Parsed, Parsed.accepted, Parsed.refused, Parser,
 use Rattle.guard.specs.Types.{Types, Variant}
 use Rattle.guard.proofs.Repeats.{room}
 use Rattle.tables.specs.Layout.{flat, pad, typeTable}
-use Rattle.number.specs.Reader.{belowAt}
+use Rattle.numbers.specs.Reader.{belowAt}
 use Rattle.typereader.specs.TypeReader.{Holds, Stores, asPlace, asSorts, asType, asTypes, asVariant, cursor, noSorts, noType, noTypes, noVariant, oneType, oneTypeAt, sortsAt, storeThree, typesAt, typesPart, variantAt, variantsAt}
 use Rattle.tables.proofs.Columns.{pad-nil, pad-set}
 use Rattle.typereader.proofs.Midway.{Midway, TypesMidway, midway-done, midway-next, midway-start, midway-stop, types-end, types-halt, types-start, types-turn}
-use Rattle.number.proofs.NumberLaws.{below-found, below-refused, count-is}
+use Rattle.numbers.proofs.NumberLaws.{below-found, below-refused, count-is}
 use Rattle.typereader.proofs.Stored.{HoldsTypes, holds-more, table-is, types-more, types-none}
-use Rattle.number.proofs.Tidy.{Answer, answer-refused, answered, cursor-drop, tidy-below, tidy-times}
+use Rattle.numbers.proofs.Tidy.{Answer, answer-refused, answered, cursor-drop, tidy-below, tidy-times}
 use Rattle.typereader.proofs.TidyTypes.{TypeFits, VariantFits, tidy-type, tidy-variant}
-use Rattle.number.specs.declared.Number.{Number}
+use Rattle.numbers.specs.declared.Number.{Number}
 use Rattle.tables.specs.declared.TypeTable.{TypeTable}
 use Rattle.typereader.specs.declared.Sorts.{Sorts}
 use Rattle.typereader.specs.declared.VariantRead.{VariantRead}
@@ -70,18 +70,18 @@ module _ (bytes : List ℕ) (at arity many : ℕ) where
         made ∙ sym (ap (asSorts bytes) (midway-done (name many) arity bytes at i next (some .xs) (some .midway) h))
 
 -- what reading them says
-module _ (bytes : List ℕ) (at arity many : ℕ) (inside : at ≤ length bytes) (f : Sorts) (is : f ≡ sortsAt bytes at arity many) where
+module _ (bytes : List ℕ) (at arity many : ℕ) (f : Sorts) (is : f ≡ sortsAt bytes at arity many) where
   pub sorts-found : f .refused ≡ 0 → Answer (times arity (name many)) (λ xs. (length xs ≡ arity) × All (λ i. i < many) xs) bytes at (asSorts bytes) (f .at) f
   unfolding sortsAt
   sorts-found z =
       answered (times arity (name many)) (λ xs. (length xs ≡ arity) × All (λ i. i < many) xs) (tidy-times arity (name many) (λ i. i < many) (tidy-below many 5 (omega arith)))
-      bytes at inside (asSorts bytes) (λ x. x .at) (λ x. x .refused) (λ q. refl) (λ a rest. (refl, refl)) f is z
+      bytes at (asSorts bytes) (λ x. x .at) (λ x. x .refused) (λ q. refl) (λ a rest. (refl, refl)) f is z
 
   pub sorts-refused : ¬ (f .refused ≡ 0) → times arity (name many) (drop at bytes) ≡ refused (f .refused)
   unfolding sortsAt
   sorts-refused z =
       answer-refused (times arity (name many)) (λ xs. (length xs ≡ arity) × All (λ i. i < many) xs) (tidy-times arity (name many) (λ i. i < many) (tidy-below many 5 (omega arith)))
-      bytes at inside (asSorts bytes) (λ x. x .at) (λ x. x .refused) (λ q. refl) (λ a rest. (refl, refl)) f is z
+      bytes at (asSorts bytes) (λ x. x .at) (λ x. x .refused) (λ q. refl) (λ a rest. (refl, refl)) f is z
 
 -- ---- a variant
 
@@ -103,26 +103,26 @@ module _ (bytes : List ℕ) (at many : ℕ) (n : Number) (counted : n ≡ belowA
     module _ (f : Sorts) (is : f ≡ sortsAt bytes (n .at) (n .value) many) where
       pub variant-stop-fields : ¬ (f .refused ≡ 0) → noVariant (f .refused) ≡ variantAt bytes at many
       unfolding variantAt
-      variant-stop-fields y = sym (ap (asVariant bytes) (from-fields ∙ sorts-refused bytes (n .at) (n .value) many (fields-inside bytes at n counted z .1) f is y))
+      variant-stop-fields y = sym (ap (asVariant bytes) (from-fields ∙ sorts-refused bytes (n .at) (n .value) many f is y))
 
       pub variant-done : f .refused ≡ 0 → _≡_ {A = VariantRead} (record { refused = 0; at = f .at; arity = n .value; sorts = f .sorts }) (variantAt bytes at many)
       unfolding variantAt
       variant-done y =
-          let a = sorts-found bytes (n .at) (n .value) many (fields-inside bytes at n counted z .1) f is y in
+          let a = sorts-found bytes (n .at) (n .value) many f is y in
           let p : f .at ≡ cursor bytes (drop (f .at) bytes) = ap (λ (x : Sorts). x .at) (a .is) in
           let s : f .sorts ≡ pad 3 (a .value) = ap (λ (x : Sorts). x .sorts) (a .is) in
           let l : n .value ≡ length (a .value) = sym (a .good .0) in
           let r : _≡_ {A = VariantRead} (record { refused = 0; at = f .at; arity = n .value; sorts = f .sorts }) (asVariant bytes (accepted (a .value) (drop (f .at) bytes))) = cc in
           r ∙ sym (ap (asVariant bytes) (from-fields ∙ a .parsed))
 
-module _ (bytes : List ℕ) (at many : ℕ) (inside : at ≤ length bytes) (f : VariantRead) (is : f ≡ variantAt bytes at many) where
+module _ (bytes : List ℕ) (at many : ℕ) (f : VariantRead) (is : f ≡ variantAt bytes at many) where
   variant-found : f .refused ≡ 0 → Answer (variant many) (VariantFits many) bytes at (asVariant bytes) (f .at) f
   unfolding variantAt
-  variant-found z = answered (variant many) (VariantFits many) (tidy-variant many) bytes at inside (asVariant bytes) (λ x. x .at) (λ x. x .refused) (λ q. refl) (λ a rest. (refl, refl)) f is z
+  variant-found z = answered (variant many) (VariantFits many) (tidy-variant many) bytes at (asVariant bytes) (λ x. x .at) (λ x. x .refused) (λ q. refl) (λ a rest. (refl, refl)) f is z
 
   variant-refused : ¬ (f .refused ≡ 0) → variant many (drop at bytes) ≡ refused (f .refused)
   unfolding variantAt
-  variant-refused z = answer-refused (variant many) (VariantFits many) (tidy-variant many) bytes at inside (asVariant bytes) (λ x. x .at) (λ x. x .refused) (λ q. refl) (λ a rest. (refl, refl)) f is z
+  variant-refused z = answer-refused (variant many) (VariantFits many) (tidy-variant many) bytes at (asVariant bytes) (λ x. x .at) (λ x. x .refused) (λ q. refl) (λ a rest. (refl, refl)) f is z
 
 -- ---- variants
 
@@ -156,7 +156,7 @@ module _ (bytes : List ℕ) (at n many w : ℕ) (arities₀ sorts₀ : List ℕ)
     pub variants-next : i < n → w + n ≤ 48 → (r : VariantRead) → r ≡ variantAt bytes next many → r .refused ≡ 0 → (arities′ sorts′ : List ℕ)
         → arities′ ≡ set arities (w + i) (r .arity) → sorts′ ≡ storeThree sorts (3 * (w + i)) (r .sorts) → SomeVariants (i + 1) (r .at) arities′ sorts′
     variants-next h fit r is z arities′ sorts′ ea es =
-        let a = variant-found bytes next many (some .midway .within) r is z in
+        let a = variant-found bytes next many r is z in
         let fs : Variant = a .value in
         let ra : r .arity ≡ length fs = ap (λ (x : VariantRead). x .arity) (a .is) in
         let rs : r .sorts ≡ pad 3 fs = ap (λ (x : VariantRead). x .sorts) (a .is) in
@@ -176,7 +176,7 @@ module _ (bytes : List ℕ) (at n many w : ℕ) (arities₀ sorts₀ : List ℕ)
         → (_≡_ {A = Place} (record { refused = r .refused; at = 0 }) (variantsAt bytes at n many)) × Stores (times n (variant many)) (drop at bytes) w arities₀ sorts₀ arities′ sorts′
     unfolding variantsAt
     variants-stop h r is z arities′ sorts′ =
-        let e = midway-stop (variant many) n bytes at i next (some .vs) (some .midway) h (r .refused) (variant-refused bytes next many (some .midway .within) r is z) in
+        let e = midway-stop (variant many) n bytes at i next (some .vs) (some .midway) h (r .refused) (variant-refused bytes next many r is z) in
         (sym (ap (asPlace bytes) e), stores-nothing (times n (variant many)) (drop at bytes) (r .refused) w arities₀ sorts₀ arities′ sorts′ e)
 
     pub variants-done : n ≤ i
@@ -190,20 +190,20 @@ module _ (bytes : List ℕ) (at n many w : ℕ) (arities₀ sorts₀ : List ℕ)
         )
 
 -- what reading them says
-module _ (bytes : List ℕ) (at n many : ℕ) (inside : at ≤ length bytes) (r : Place) (is : r ≡ variantsAt bytes at n many) where
+module _ (bytes : List ℕ) (at n many : ℕ) (r : Place) (is : r ≡ variantsAt bytes at n many) where
   abbrev AllFit : List Variant → Type 0
   AllFit vs = (length vs ≡ n) × All (VariantFits many) vs
 
   variants-found : r .refused ≡ 0 → Answer (times n (variant many)) AllFit bytes at (asPlace bytes) (r .at) r
   unfolding variantsAt
   variants-found z =
-      answered (times n (variant many)) AllFit (tidy-times n (variant many) (VariantFits many) (tidy-variant many)) bytes at inside (asPlace bytes)
+      answered (times n (variant many)) AllFit (tidy-times n (variant many) (VariantFits many) (tidy-variant many)) bytes at (asPlace bytes)
       (λ x. x .at) (λ x. x .refused) (λ q. refl) (λ a rest. (refl, refl)) r is z
 
   variants-refused : ¬ (r .refused ≡ 0) → times n (variant many) (drop at bytes) ≡ refused (r .refused)
   unfolding variantsAt
   variants-refused z =
-      answer-refused (times n (variant many)) AllFit (tidy-times n (variant many) (VariantFits many) (tidy-variant many)) bytes at inside (asPlace bytes)
+      answer-refused (times n (variant many)) AllFit (tidy-times n (variant many) (VariantFits many) (tidy-variant many)) bytes at (asPlace bytes)
       (λ x. x .at) (λ x. x .refused) (λ q. refl) (λ a rest. (refl, refl)) r is z
 
 -- ---- a type
@@ -228,20 +228,20 @@ module _ (bytes : List ℕ) (at total k : ℕ) (limit : k ≡ room total) (n : N
         subst (λ (x : TypeRead). Typed x arities′ sorts′) (sym e)
         (type-no (n .refused) arities′ sorts′ (ap (andThen (λ v. times v (variant many))) (below-refused bytes at (room total) 4 (omega arith) n in-room z)))
 
-    module _ (fit : total ≤ 48) (z : n .refused ≡ 0) (p : Place) (is : p ≡ variantsAt bytes (n .at) (n .value) many) where
+    module _ (z : n .refused ≡ 0) (p : Place) (is : p ≡ variantsAt bytes (n .at) (n .value) many) where
       from-variants : oneType many total (drop at bytes) ≡ times (n .value) (variant many) (drop (n .at) bytes)
       from-variants = ap (andThen (λ v. times v (variant many))) (below-found bytes at (room total) 4 (omega arith) n in-room z .parsed)
 
       pub type-stop-variants : (r : TypeRead) → r ≡ noType (p .refused) → ¬ (p .refused ≡ 0) → (arities′ sorts′ : List ℕ) → Typed r arities′ sorts′
       type-stop-variants r e y arities′ sorts′ =
           subst (λ (x : TypeRead). Typed x arities′ sorts′) (sym e)
-          (type-no (p .refused) arities′ sorts′ (from-variants ∙ variants-refused bytes (n .at) (n .value) many (type-inside fit z .1) p is y))
+          (type-no (p .refused) arities′ sorts′ (from-variants ∙ variants-refused bytes (n .at) (n .value) many p is y))
 
       pub type-done : p .refused ≡ 0 → (arities′ sorts′ : List ℕ) → Stores (times (n .value) (variant many)) (drop (n .at) bytes) total arities sorts arities′ sorts′
           → Typed (record { refused = 0; at = p .at; variants = n .value }) arities′ sorts′
       unfolding oneTypeAt
       type-done y arities′ sorts′ s =
-          let a = variants-found bytes (n .at) (n .value) many (type-inside fit z .1) p is y in
+          let a = variants-found bytes (n .at) (n .value) many p is y in
           let c : p .at ≡ cursor bytes (drop (p .at) bytes) = ap (λ (x : Place). x .at) (a .is) in
           let l : n .value ≡ length (a .value) = sym (a .good .0) in
           let r : _≡_ {A = TypeRead} (record { refused = 0; at = p .at; variants = n .value }) (asType bytes (accepted (a .value) (drop (p .at) bytes))) = cc in (
@@ -250,16 +250,16 @@ module _ (bytes : List ℕ) (at total k : ℕ) (limit : k ≡ room total) (n : N
           )
 
 -- what reading it says
-module _ (bytes : List ℕ) (at many total : ℕ) (fit : total ≤ totalVariantLimit) (inside : at ≤ length bytes) (r : TypeRead) (is : r ≡ oneTypeAt bytes at many total) where
+module _ (bytes : List ℕ) (at many total : ℕ) (fit : total ≤ totalVariantLimit) (r : TypeRead) (is : r ≡ oneTypeAt bytes at many total) where
   type-found : r .refused ≡ 0 → Answer (oneType many total) (TypeFits many total) bytes at (asType bytes) (r .at) r
   unfolding oneTypeAt
   type-found z =
-      answered (oneType many total) (TypeFits many total) (tidy-type many total fit) bytes at inside (asType bytes) (λ x. x .at) (λ x. x .refused) (λ q. refl) (λ a rest. (refl, refl)) r is z
+      answered (oneType many total) (TypeFits many total) (tidy-type many total fit) bytes at (asType bytes) (λ x. x .at) (λ x. x .refused) (λ q. refl) (λ a rest. (refl, refl)) r is z
 
   type-refused : ¬ (r .refused ≡ 0) → oneType many total (drop at bytes) ≡ refused (r .refused)
   unfolding oneTypeAt
   type-refused z =
-      answer-refused (oneType many total) (TypeFits many total) (tidy-type many total fit) bytes at inside (asType bytes) (λ x. x .at) (λ x. x .refused) (λ q. refl) (λ a rest. (refl, refl)) r is z
+      answer-refused (oneType many total) (TypeFits many total) (tidy-type many total fit) bytes at (asType bytes) (λ x. x .at) (λ x. x .refused) (λ q. refl) (λ a rest. (refl, refl)) r is z
 
 -- ---- types
 
@@ -280,7 +280,7 @@ module _ (bytes : List ℕ) (at many : ℕ) where
     module _ (r : TypeRead) (is : r ≡ oneTypeAt bytes next many total) where
       pub type-small : r .refused ≡ 0 → (r .variants ≤ 16) × (total + r .variants ≤ 48)
       type-small z =
-          let a = type-found bytes next many total types-room (some .midway .within) r is z in
+          let a = type-found bytes next many total types-room r is z in
           let l : r .variants ≡ length (a .value) = ap (λ (x : TypeRead). x .variants) (a .is) in
           (omega (arith, a .good .0), omega (arith, a .good .1))
 
@@ -288,7 +288,7 @@ module _ (bytes : List ℕ) (at many : ℕ) where
         pub types-next-turn : many ≤ 6 → r .refused ≡ 0 → (arities′ sorts′ : List ℕ) → Stores (oneType many total) (drop next bytes) total arities sorts arities′ sorts′
             → SomeTypes (t + 1) (r .at) (total + r .variants) (set variants t (r .variants)) (set first t total) arities′ sorts′
         types-next-turn fit z arities′ sorts′ s =
-            let a = type-found bytes next many total types-room (some .midway .within) r is z in
+            let a = type-found bytes next many total types-room r is z in
             let ts : Types = some .ts in
             let vs : List Variant = a .value in
             let e : total ≡ length (flat ts) = some .columns .all in
@@ -308,7 +308,7 @@ module _ (bytes : List ℕ) (at many : ℕ) where
         pub types-stop-turn : ¬ (r .refused ≡ 0) → types many many 0 (drop at bytes) ≡ refused (r .refused)
         types-stop-turn z =
             types-halt many bytes at t next (some .ts) (some .midway) h (r .refused)
-            (ap (λ (k : ℕ). oneType many k (drop next bytes)) (sym (some .columns .all)) ∙ type-refused bytes next many total types-room (some .midway .within) r is z)
+            (ap (λ (k : ℕ). oneType many k (drop next bytes)) (sym (some .columns .all)) ∙ type-refused bytes next many total types-room r is z)
 
 -- ---- the types part
 

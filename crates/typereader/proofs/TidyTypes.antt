@@ -14,8 +14,8 @@ use Rattle.guard.specs.Limits.{fieldLimit, totalVariantLimit, variantLimit}
 use Rattle.guard.specs.Number.{times, unsigned}
 use Rattle.guard.specs.Types.{Types, Variant}
 use Rattle.guard.proofs.Repeats.{room}
-use Rattle.number.specs.Reader.{below}
-use Rattle.number.proofs.Tidy.{Tidy, tidy-asked, tidy-below, tidy-bind, tidy-count, tidy-return, tidy-times, tidy-unsigned, tidy-weaken}
+use Rattle.numbers.specs.Reader.{below}
+use Rattle.numbers.proofs.Tidy.{Tidy, tidy-asked, tidy-below, tidy-bind, tidy-count, tidy-return, tidy-times, tidy-unsigned, tidy-weaken}
 use Rattle.tables.specs.Layout.{flat}
 use Rattle.typereader.specs.TypeReader.{oneType, typesPart}
 

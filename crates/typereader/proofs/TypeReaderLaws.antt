@@ -13,7 +13,7 @@ use Rattle.guard.specs.Number.{Parsed.accepted, Parsed.refused}
 use Rattle.guard.specs.Types.{Types, variantsOf}
 use Rattle.tables.specs.Layout.{TypesInRange, flat, typeTable, typesOf}
 use Rattle.typereader.specs.TypeReader.{asTypes, noTypes, typesAt, typesPart}
-use Rattle.number.proofs.Tidy.{Answer, answer-refused, answered}
+use Rattle.numbers.proofs.Tidy.{Answer, answer-refused, answered}
 use Rattle.typereader.proofs.TidyTypes.{TypesFit, VariantFits, tidy-part}
 use Rattle.tables.proofs.TypesBack.{table-in-range, types-back}
 use Rattle.typereader.specs.declared.TypesRead.{TypesRead}
@@ -46,11 +46,11 @@ module _ (bytes : List ℕ) (limit : ℕ) (r : TypesRead) (is : r ≡ typesAt by
 
   answer : r .refused ≡ 0 → Answer (typesPart limit) Fit bytes 0 (asTypes bytes) (r .at) r
   unfolding typesAt asTypes noTypes
-  answer z = answered (typesPart limit) Fit (tidy-part limit) bytes 0 (omega arith) (asTypes bytes) (λ x. x .at) (λ x. x .refused) (λ q. refl) (λ a rest. (refl, refl)) r is z
+  answer z = answered (typesPart limit) Fit (tidy-part limit) bytes 0 (asTypes bytes) (λ x. x .at) (λ x. x .refused) (λ q. refl) (λ a rest. (refl, refl)) r is z
 
   pub types-refused : ¬ (r .refused ≡ 0) → typesPart limit bytes ≡ refused (r .refused)
   unfolding typesAt asTypes noTypes
-  types-refused z = answer-refused (typesPart limit) Fit (tidy-part limit) bytes 0 (omega arith) (asTypes bytes) (λ x. x .at) (λ x. x .refused) (λ q. refl) (λ a rest. (refl, refl)) r is z
+  types-refused z = answer-refused (typesPart limit) Fit (tidy-part limit) bytes 0 (asTypes bytes) (λ x. x .at) (λ x. x .refused) (λ q. refl) (λ a rest. (refl, refl)) r is z
 
   pub types-found : limit ≤ 6 → r .refused ≡ 0 → TypesFound bytes limit r
   unfolding asTypes

@@ -9,7 +9,7 @@ use Rattle.guard.specs.Limits.{variantLimit, totalVariantLimit}
 use Rattle.guard.specs.Types.{Types, Variant}
 use Rattle.guard.specs.Number.{Parsed, Parsed.accepted, Parsed.refused, Parser, _>>=_, times}
 use Rattle.guard.specs.File.{count, name, variant, types}
-use Rattle.number.specs.Reader.{below}
+use Rattle.numbers.specs.Reader.{below}
 use Rattle.tables.specs.Layout.{pad, typeTable}
 use Rattle.typereader.specs.declared.Sorts.{Sorts}
 use Rattle.typereader.specs.declared.VariantRead.{VariantRead}

@@ -62,7 +62,7 @@ fn read_sorts(bytes: &[u8], at: usize, arity: usize, many: u32) -> Sorts
     let mut next = at;
     let mut i: usize = 0;
     while i < arity {
-        let n = number::read_below(bytes, next, many, 5);
+        let n = numbers::read_below(bytes, next, many, 5);
         if n.refused != 0 {
             return no_sorts(n.refused);
         }
@@ -93,7 +93,7 @@ fn read_variant(bytes: &[u8], at: usize, many: u32) -> VariantRead
     requires { ⌜ many ≤ 6 ⌝ }
     ensures { λ r. ⌜ r ≡ variantAt (now (bytes .entry)) at many ⌝ }
 {
-    let n = number::read_below(bytes, at, 4, 4);
+    let n = numbers::read_below(bytes, at, 4, 4);
     if n.refused != 0 {
         return no_variant(n.refused);
     }
@@ -189,7 +189,7 @@ fn read_type(
     requires { ⌜ (total ≤ 48) × (many ≤ 6) ⌝ }
     ensures { λ r. ⌜ (r ≡ oneTypeAt (now (bytes .entry)) at many total) × Stores (oneType many total) (drop at (now (bytes .entry))) total (now (arities .entry)) (now (sorts .entry)) (now (arities .exit)) (now (sorts .exit)) ⌝ }
 {
-    let n = number::read_below(bytes, at, room_after(total), 4);
+    let n = numbers::read_below(bytes, at, room_after(total), 4);
     if n.refused != 0 {
         return no_type(n.refused);
     }
@@ -229,7 +229,7 @@ pub fn read_types(bytes: &[u8], limit: u32) -> TypesRead
     requires { ⌜ limit ≤ 6 ⌝ }
     ensures { λ r. ⌜ r ≡ typesAt (now (bytes .entry)) limit ⌝ }
 {
-    let n = number::read_below(bytes, 0, limit + 1, 4);
+    let n = numbers::read_below(bytes, 0, limit + 1, 4);
     if n.refused != 0 {
         return no_types(n.refused);
     }

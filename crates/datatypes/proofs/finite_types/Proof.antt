@@ -3,8 +3,8 @@ use mathlib.Core.Path.{_≡_, sym}
 use Prim.Native.Nat.{_-_, _≤_}
 use native.Mathlib.Omega.{arith}
 use borrow.Author.Needs.{needs}
-use Rattle.datatypes.specs.Facts.{knownAfter, typesIn}
-use Rattle.datatypes.proofs.FlatTypes.{types-many}
+use Rattle.datatypes.specs.Facts.{columns, knownAfter, typesIn}
+use Rattle.tables.proofs.Held.{held-many}
 use Rattle.datatypes.proofs.FiniteLaws.{known-none, known-next, known-end}
 use Rattle.datatypes.proofs.finite_types.Statement.{statement}
 use Rattle.datatypes.proofs.finite_types.Tie as tie
@@ -25,13 +25,13 @@ loop-again : tie.Need-loop-again Inv-loop μ-loop
 loop-again c =
     let a = c .before .before .before .before .args in
     let l = c .before .before .before .loop in
-    (omega arith, known-next (typesIn (a .many) (a .variants .now) (a .first .now) (a .arities .now) (a .sorts .now)) (l .pass) (a .many) (l .known) (c .next-known .result) (types-many (a .many) (a .variants .now) (a .first .now) (a .arities .now) (a .sorts .now)) (l .inv .1) (c .next-known .ensures))
+    (omega arith, known-next (typesIn (a .many) (a .variants .now) (a .first .now) (a .arities .now) (a .sorts .now)) (l .pass) (a .many) (l .known) (c .next-known .result) (held-many (columns (a .many) (a .variants .now) (a .first .now) (a .arities .now) (a .sorts .now))) (l .inv .1) (c .next-known .ensures))
 
 returns : tie.Need-returns Inv-loop μ-loop
 returns c =
     let a = c .before .before .args in
     let l = c .before .loop in
-    known-end (typesIn (a .many) (a .variants .now) (a .first .now) (a .arities .now) (a .sorts .now)) (l .pass) (a .many) (l .known) (types-many (a .many) (a .variants .now) (a .first .now) (a .arities .now) (a .sorts .now)) (l .inv .0) (c .loop-test .left) (l .inv .1)
+    known-end (typesIn (a .many) (a .variants .now) (a .first .now) (a .arities .now) (a .sorts .now)) (l .pass) (a .many) (l .known) (held-many (columns (a .many) (a .variants .now) (a .first .now) (a .arities .now) (a .sorts .now))) (l .inv .0) (c .loop-test .left) (l .inv .1)
 
 pub finite-types-spec : {M : Type 1} → statement M
 finite-types-spec =

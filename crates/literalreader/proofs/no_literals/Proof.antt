@@ -4,8 +4,6 @@ use Rattle.tables.specs.Layout.{literalTable}
 use mathlib.Core.Path.{refl}
 use Rattle.literalreader.proofs.no_literals.Statement.{statement}
 use Rattle.literalreader.proofs.no_literals.Tie as tie
-use Rattle.literalreader.proofs.no_literals.Reads as reads
-use Rattle.literalreader.proofs.no_literals.Lts as lts
 
 returns : tie.Need-returns
 unfolding noLiterals literalTable

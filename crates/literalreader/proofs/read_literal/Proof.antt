@@ -1,17 +1,12 @@
 -- `read_literal` meets its contract. Assumes nothing.
 use Rattle.literalreader.proofs.LiteralLaws.{kind-stops, literal-read, literal-refused, numbers-stop}
 use Rattle.literalreader.specs.LiteralReader.{literalBy}
-use Rattle.number.proofs.Answers.{below-small}
+use Rattle.numbers.proofs.Answers.{below-small}
 use lib.ListN.{drop}
 use native.Mathlib.Omega.{arith}
 use borrow.Author.Needs.{needs}
 use Rattle.literalreader.proofs.read_literal.Statement.{statement}
 use Rattle.literalreader.proofs.read_literal.Tie as tie
-use Rattle.literalreader.proofs.read_literal.Reads as reads
-use Rattle.literalreader.proofs.read_literal.Lts as lts
-use Rattle.literalreader.proofs.no_literal.Reads as no-literal-reads
-use Rattle.literalreader.proofs.read_numbers.Reads as read-numbers-reads
-use Rattle.number.proofs.read_below.Reads as read-below-reads
 
 read-below-requires : tie.Need-read-below-requires
 read-below-requires c κs = search needs

@@ -3,17 +3,12 @@
 use borrow.Author.Needs.{needs}
 use Rattle.literalreader.proofs.LiteralLaws.{Read, at-the-end, count-stops, literals-stop, not-ended, read-all, read-next, read-none, read-stops, read-table}
 use Rattle.literalreader.specs.LiteralReader.{literalBy}
-use Rattle.number.proofs.Answers.{below-says, below-small}
+use Rattle.numbers.proofs.Answers.{below-says, below-small}
 use mathlib.Core.Path.{_∙_, ap}
 use Prim.Native.Nat.{_+_, _-_}
 use native.Mathlib.Omega.{arith}
 use Rattle.literalreader.proofs.read_literals.Statement.{statement}
 use Rattle.literalreader.proofs.read_literals.Tie as tie
-use Rattle.literalreader.proofs.read_literals.Reads as reads
-use Rattle.literalreader.proofs.read_literals.Lts as lts
-use Rattle.literalreader.proofs.no_literals.Reads as no-literals-reads
-use Rattle.literalreader.proofs.read_literal.Reads as read-literal-reads
-use Rattle.number.proofs.read_below.Reads as read-below-reads
 
 abbrev Inv-loop : tie.InvT-loop
 Inv-loop bytes at limit counts rows types many kinds₀ terms₀ others₀ cursor₀ i₀ kinds terms others cursor i =

@@ -5,10 +5,6 @@ use native.Mathlib.Omega.{arith}
 use borrow.Author.Needs.{needs}
 use Rattle.literalreader.proofs.read_numbers.Statement.{statement}
 use Rattle.literalreader.proofs.read_numbers.Tie as tie
-use Rattle.literalreader.proofs.read_numbers.Reads as reads
-use Rattle.literalreader.proofs.read_numbers.Lts as lts
-use Rattle.literalreader.proofs.read_tested.Reads as read-tested-reads
-use Rattle.literalreader.proofs.read_two_terms.Reads as read-two-terms-reads
 
 read-two-terms-requires : tie.Need-read-two-terms-requires
 read-two-terms-requires c κs = search needs

@@ -1,16 +1,13 @@
 -- `read_two_terms` meets its contract. Assumes nothing.
-use Rattle.literalreader.proofs.PairLaws.{first-stops, second-stops, two, two-read, types-differ}
+use mathlib.Core.Path.{refl}
+use Rattle.literalreader.proofs.PairLaws.{second-stops, two, two-read, types-differ}
 use Rattle.literalreader.specs.LiteralReader.{twoBy}
-use Rattle.number.proofs.Answers.{below-says, below-small, says-accepted, says-refused}
+use Rattle.numbers.proofs.Answers.{below-says, below-small, name-stop, says-accepted, says-refused}
 use lib.ListN.{drop}
 use native.Mathlib.Omega.{arith}
 use borrow.Author.Needs.{needs}
 use Rattle.literalreader.proofs.read_two_terms.Statement.{statement}
 use Rattle.literalreader.proofs.read_two_terms.Tie as tie
-use Rattle.literalreader.proofs.read_two_terms.Reads as reads
-use Rattle.literalreader.proofs.read_two_terms.Lts as lts
-use Rattle.literalreader.proofs.no_pair.Reads as no-pair-reads
-use Rattle.number.proofs.read_below.Reads as read-below-reads
 
 cast-read-below : tie.Need-cast-read-below
 cast-read-below c = search needs
@@ -25,7 +22,7 @@ returns : tie.Need-returns
 returns c =
     let s = c .before .before .before .before .before .args in
     let a = c .before .before .before .read-below in
-    says-refused (s .bytes .now) (twoBy (s .rows) (s .types .now) (drop (s .at) (s .bytes .now))) (a .result .refused) _ _ _ (c .no-pair .ensures) (omega arith) (first-stops (s .bytes .now) (s .at) (s .rows) (a .result) (a .ensures) _ (omega arith))
+    says-refused (s .bytes .now) (twoBy (s .rows) (s .types .now) (drop (s .at) (s .bytes .now))) (a .result .refused) _ _ _ (c .no-pair .ensures) (omega arith) (name-stop _ (s .bytes .now) (s .at) (s .rows) (a .result) (a .ensures) (s .rows) refl (omega arith))
 
 cast-read-below-2 : tie.Need-cast-read-below-2
 cast-read-below-2 c = search needs

@@ -5,7 +5,7 @@ use native.Mathlib.Omega.{arith}
 use lib.ListN.{length, take}
 use Rattle.guard.specs.Types.{variantsOf}
 use Rattle.tables.specs.Layout.{typesOf}
-use Rattle.rowreader.proofs.TypesAt.{number-small, variant-count}
+use Rattle.tables.proofs.Held.{held-variants, place-small}
 use Rattle.rowreader.proofs.Answers.{variant-small, variant-within, built-no-variant, built-no-parts, built-found}
 use borrow.Author.Needs.{needs}
 use Rattle.rowreader.proofs.built_of.Statement.{statement}
@@ -19,7 +19,7 @@ chosen c =
     variant-small (a .t5) (a .bytes .now) (a .at) (a .t) (c .before .before .before .variants-of .result) (c .before .before .before .before .before .pre .2) (c .before .before .before .variants-of .ensures) (v .result) (v .ensures) (c .if1 .left)
 
 numbered : (c : tie.After-variant-number) → c .variant-number .result < 48
-numbered c = omega (arith, c .variant-number .ensures, number-small (c .before .before .before .before .before .before .before .args .t5) (c .before .before .before .before .before .before .before .pre .0) (c .before .before .before .before .before .before .before .args .t) (c .before .before .before .before .read-below .result .value) (c .before .before .before .before .before .before .before .pre .2) (chosen (c .before .before)))
+numbered c = omega (arith, c .variant-number .ensures, place-small (c .before .before .before .before .before .before .before .args .t5) (c .before .before .before .before .before .before .before .pre .0) (c .before .before .before .before .before .before .before .args .t) (c .before .before .before .before .read-below .result .value) (c .before .before .before .before .before .before .before .pre .2) (chosen (c .before .before)))
 
 variants-of-requires : tie.Need-variants-of-requires
 variants-of-requires c κs =
@@ -83,7 +83,7 @@ cast-t19 c =
 cast-t21 : tie.Need-cast-t21
 cast-t21 c =
     let a = c .before .before .before .before .before .before .before .before .before .before .before .before .before .before .before .args in
-    omega (arith, chosen (c .before .before .before .before .before .before .before .before .before .before), variant-count (a .t5) (a .t) (c .before .before .before .before .before .before .before .before .before .before .before .before .before .before .before .pre .2), c .before .before .before .before .before .before .before .before .before .before .before .before .before .before .before .pre .0 .variants (a .t))
+    omega (arith, chosen (c .before .before .before .before .before .before .before .before .before .before), held-variants (a .t5) (a .t) (c .before .before .before .before .before .before .before .before .before .before .before .before .before .before .before .pre .2), c .before .before .before .before .before .before .before .before .before .before .before .before .before .before .before .pre .0 .variants (a .t))
 
 returns-3 : tie.Need-returns-3
 returns-3 c =

@@ -5,7 +5,7 @@ use native.Mathlib.Omega.{arith}
 use lib.ListN.{length, getD}
 use Rattle.guard.specs.Types.{variantsOf}
 use Rattle.tables.specs.Layout.{typesOf}
-use Rattle.rowreader.proofs.TypesAt.{number-small, variant-count}
+use Rattle.tables.proofs.Held.{held-variants, place-small}
 use Rattle.rowreader.proofs.Answers.{variant-small, field-no-variant, position-small, field-no-position, field-found}
 use borrow.Author.Needs.{needs}
 use Rattle.rowreader.proofs.field_of.Statement.{statement}
@@ -19,10 +19,10 @@ chosen c =
     variant-small (a .t3) (a .bytes .now) (a .at) (a .t) (c .before .before .before .variants-of .result) (c .before .before .before .before .before .pre .1) (c .before .before .before .variants-of .ensures) (v .result) (v .ensures) (c .if1 .left)
 
 few : (c : tie.Else1) → c .before .before .read-below .result .value < 16
-few c = omega (arith, chosen c, variant-count (c .before .before .before .before .before .args .t3) (c .before .before .before .before .before .args .t) (c .before .before .before .before .before .pre .1), c .before .before .before .before .before .pre .0 .variants (c .before .before .before .before .before .args .t))
+few c = omega (arith, chosen c, held-variants (c .before .before .before .before .before .args .t3) (c .before .before .before .before .before .args .t) (c .before .before .before .before .before .pre .1), c .before .before .before .before .before .pre .0 .variants (c .before .before .before .before .before .args .t))
 
 numbered : (c : tie.After-variant-number) → c .variant-number .result < 48
-numbered c = omega (arith, c .variant-number .ensures, number-small (c .before .before .before .before .before .before .before .args .t3) (c .before .before .before .before .before .before .before .pre .0) (c .before .before .before .before .before .before .before .args .t) (c .before .before .before .before .read-below .result .value) (c .before .before .before .before .before .before .before .pre .1) (chosen (c .before .before)))
+numbered c = omega (arith, c .variant-number .ensures, place-small (c .before .before .before .before .before .before .before .args .t3) (c .before .before .before .before .before .before .before .pre .0) (c .before .before .before .before .before .before .before .args .t) (c .before .before .before .before .read-below .result .value) (c .before .before .before .before .before .before .before .pre .1) (chosen (c .before .before)))
 
 positioned : (c : tie.Else2) → (c .before .before .read-below2 .result .value < getD (c .before .before .before .before .before .before .before .before .before .before .before .args .t3 .arities) (c .before .before .before .before .variant-number .result) 0) × (c .before .before .read-below2 .result .value < 3)
 positioned c =

@@ -9,7 +9,7 @@ use Rattle.tables.specs.declared.RowTable.{RowTable}
 use Rattle.tables.specs.Layout.{rowTable, typesOf}
 use Rattle.rowreader.specs.declared.RowsRead.{RowsRead}
 use Rattle.rowreader.specs.RowReader.{noRows}
-use Rattle.rowreader.proofs.RowLaws.{RowsSoFar, rows-start, rows-done, held-many, before-row, kind-stop, kind-small, row-stop, row-next}
+use Rattle.rowreader.proofs.RowLaws.{RowsSoFar, rows-start, rows-done, rows-many, before-row, kind-stop, kind-small, row-stop, row-next}
 use Rattle.rowreader.proofs.read_n_rows.Statement.{statement}
 use Rattle.rowreader.proofs.read_n_rows.Tie as tie
 
@@ -85,7 +85,7 @@ store-requires : tie.Need-store-requires Inv-loop μ-loop
 store-requires c κs =
     let a = c .before .before .before .before .before .before .before .before .before .before .before .before .before .before .args in
     let l = c .before .before .before .before .before .before .before .before .before .before .loop in
-    omega (arith, held-many (a .bytes .now) (a .at) (a .n) (a .table) (c .before .before .before .before .before .before .before .before .before .before .before .before .before .before .pre .0) (c .before .before .before .before .before .before .before .before .before .before .before .before .before .before .pre .1) (l .rows) (l .next) (l .i) (l .inv .1), c .before .before .before .before .before .before .before .before .before .loop-test .taken, c .before .before .before .before .before .before .before .before .before .before .before .before .before .before .pre .1)
+    omega (arith, rows-many (a .bytes .now) (a .at) (a .n) (a .table) (c .before .before .before .before .before .before .before .before .before .before .before .before .before .before .pre .0) (c .before .before .before .before .before .before .before .before .before .before .before .before .before .before .pre .1) (l .rows) (l .next) (l .i) (l .inv .1), c .before .before .before .before .before .before .before .before .before .loop-test .taken, c .before .before .before .before .before .before .before .before .before .before .before .before .before .before .pre .1)
 
 add-i : tie.Need-add-i Inv-loop μ-loop
 add-i c =

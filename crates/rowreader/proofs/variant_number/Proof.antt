@@ -1,6 +1,6 @@
 -- `rowreader::variant_number` meets its contract: the sum is that of the definition, and below 48. Assumes nothing.
 use native.Mathlib.Omega.{arith}
-use Rattle.rowreader.proofs.TypesAt.{number-small}
+use Rattle.tables.proofs.Held.{place-small}
 use borrow.Author.Needs.{needs}
 use Rattle.rowreader.proofs.variant_number.Statement.{statement}
 use Rattle.rowreader.proofs.variant_number.Tie as tie
@@ -13,7 +13,7 @@ cast-result c = search needs
 
 add-result : tie.Need-add-result
 add-result c =
-    omega (arith, number-small (c .before .args .t1) (c .before .pre .0) (c .before .args .t) (c .before .args .v) (c .before .pre .1) (c .before .pre .2))
+    omega (arith, place-small (c .before .args .t1) (c .before .pre .0) (c .before .args .t) (c .before .args .v) (c .before .pre .1) (c .before .pre .2))
 
 returns : tie.Need-returns
 returns c = search needs

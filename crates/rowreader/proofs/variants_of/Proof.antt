@@ -1,6 +1,6 @@
 -- `rowreader::variants_of` meets its contract: the column of the table has it. Assumes nothing.
 use mathlib.Core.Path.{sym}
-use Rattle.rowreader.proofs.TypesAt.{variant-count}
+use Rattle.tables.proofs.Held.{held-variants}
 use borrow.Author.Needs.{needs}
 use Rattle.rowreader.proofs.variants_of.Statement.{statement}
 use Rattle.rowreader.proofs.variants_of.Tie as tie
@@ -13,7 +13,7 @@ cast-result c = search needs
 
 returns : tie.Need-returns
 returns c =
-    sym (variant-count (c .before .args .t1) (c .before .args .t) (c .before .pre .1))
+    sym (held-variants (c .before .args .t1) (c .before .args .t) (c .before .pre .1))
 
 pub variants-of-spec : {M : Type 1} → statement M
 variants-of-spec = tie.close (tie.spec element-copy-out-result cast-result returns)

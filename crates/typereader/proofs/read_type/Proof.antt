@@ -37,18 +37,16 @@ returns-2 : tie.Need-returns-2
 returns-2 c =
     let k = c .before .before .before .before .before .before .before .before .before .before .room-after in
     let n = c .before .before .before .before .before .before .before .before .before .read-below in
-    let p = c .before .before .before .before .before .before .before .before .before .before .before .before .pre in
     let v = c .before .before .before .read-variants in
-    type-stop-variants _ _ _ (k .result) (k .ensures) (n .result) (n .ensures) _ _ _ (p .0) (c .before .before .before .before .before .before .before .if1 .left) (v .result) (v .ensures .0)
+    type-stop-variants _ _ _ (k .result) (k .ensures) (n .result) (n .ensures) _ _ _ (c .before .before .before .before .before .before .before .if1 .left) (v .result) (v .ensures .0)
     (c .no-type2 .result) (c .no-type2 .ensures) (c .before .if2 .taken) _ _
 
 returns-3 : tie.Need-returns-3
 returns-3 c =
     let k = c .before .before .before .before .before .before .before .before .before .room-after in
     let n = c .before .before .before .before .before .before .before .before .read-below in
-    let p = c .before .before .before .before .before .before .before .before .before .before .before .pre in
     let v = c .before .before .read-variants in
-    type-done _ _ _ (k .result) (k .ensures) (n .result) (n .ensures) _ _ _ (p .0) (c .before .before .before .before .before .before .if1 .left) (v .result) (v .ensures .0) (c .if2 .left) _ _ (v .ensures .1)
+    type-done _ _ _ (k .result) (k .ensures) (n .result) (n .ensures) _ _ _ (c .before .before .before .before .before .before .if1 .left) (v .result) (v .ensures .0) (c .if2 .left) _ _ (v .ensures .1)
 
 pub read-type-spec : {M : Type 1} → statement M
 read-type-spec =

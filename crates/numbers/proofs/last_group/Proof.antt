@@ -1,4 +1,4 @@
--- `number::last_group` meets its contract: the two tests are those of `lastFits`. Assumes nothing.
+-- `numbers::last_group` meets its contract: the two tests are those of `lastFits`. Assumes nothing.
 use mathlib.Core.Path.{_≡_, sym, _∙_}
 use mathlib.Core.Bool.{true, not, _||_}
 use mathlib.Core.Logic.{⊎-elim}
@@ -8,9 +8,9 @@ use native.Mathlib.Omega.{arith}
 use lib.Dec.{leb, eqb}
 use borrow.Author.Tests.{ltb-true, ltb-false}
 use borrow.Author.Needs.{needs}
-use Rattle.number.proofs.Groups.{last-good, last-large, last-overlong, fewest-one, fewest-some}
-use Rattle.number.proofs.last_group.Statement.{statement}
-use Rattle.number.proofs.last_group.Tie as tie
+use Rattle.numbers.proofs.Groups.{last-good, last-large, last-overlong, fewest-one, fewest-some}
+use Rattle.numbers.proofs.last_group.Statement.{statement}
+use Rattle.numbers.proofs.last_group.Tie as tie
 
 few : (c : tie.Joined1) → (leb (c .before .args .weight) 1 || not (eqb (c .before .args .byte) 0)) ≡ true
 few c =

@@ -1,10 +1,10 @@
--- `number::fold_signed` meets its contract, in the two cases of its test. Assumes nothing.
+-- `numbers::fold_signed` meets its contract, in the two cases of its test. Assumes nothing.
 use mathlib.Core.Path.{ap}
 use native.Mathlib.Omega.{arith}
 use Rattle.guard.specs.Number.{foldSigned}
-use Rattle.number.proofs.Signed.{Negative, NotNegative, negative, not-negative}
-use Rattle.number.proofs.fold_signed.Statement.{statement}
-use Rattle.number.proofs.fold_signed.Tie as tie
+use Rattle.numbers.proofs.Signed.{Negative, NotNegative, negative, not-negative}
+use Rattle.numbers.proofs.fold_signed.Statement.{statement}
+use Rattle.numbers.proofs.fold_signed.Tie as tie
 
 below : (c : tie.Then1) → Negative (c .before .args .v)
 below c = negative (c .before .args .v) (c .before .fits .v) (c .if1 .taken)

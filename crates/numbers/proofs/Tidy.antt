@@ -8,13 +8,15 @@ use Prim.Native.Nat.{ℕ, zero, suc, _+_, _-_, _≤_, _<_}
 use native.Mathlib.Omega.{arith}
 use lib.Dec.{leb, ltb}
 use lib.ListN.{length, drop, length-drop}
-use lib.Seq.{drop-drop}
-use borrow.Author.Tests.{leb-true, ltb-true}
+use lib.Seq.{drop-drop, drop-length}
+use borrow.Author.Tests.{leb-true, leb-false, ltb-true}
 use Rattle.laws.specs.All.{All, All.more, All.none}
+use Rattle.laws.proofs.Bools.{by-test}
+use Rattle.laws.proofs.Lists.{length-nil}
 use Rattle.guard.specs.File.{count}
 use Rattle.guard.specs.Number.{Parsed, Parsed.accepted, Parsed.refused, Parser, _>>=_, _>>_, andThen, ask, return, times, unsigned}
-use Rattle.number.specs.Reader.{below}
-use Rattle.number.proofs.NumberLaws.{cursor, unsigned-question}
+use Rattle.numbers.specs.Reader.{below}
+use Rattle.numbers.proofs.NumberLaws.{cursor, unsigned-question}
 
 other : {A : Type 0} {B : Type 0} {q : ℕ} {a : A} {rest : List ℕ} → Path (Parsed A) (refused q) (accepted a rest) → B
 other e = let z : _≡_ {A = ℕ} 0 1 = cc in absurd (omega arith)
@@ -23,6 +25,10 @@ pub record Tidy {A : Type 0} (p : Parser A) (P : A → Type 0) : Type 0 where
   pub asks : (bs : List ℕ) (q : ℕ) → p bs ≡ refused q → 0 < q
   pub leaves : (bs : List ℕ) (a : A) (rest : List ℕ) → p bs ≡ accepted a rest → (u : ℕ) × (u ≤ length bs) × (rest ≡ drop u bs)
   pub gives : (bs : List ℕ) (a : A) (rest : List ℕ) → p bs ≡ accepted a rest → P a
+
+-- of a value nothing is said
+abbrev pub Any : {A : Type 0} → A → Type 0
+Any a = Unit {0}
 
 module _ {A B : Type 0} (p : Parser A) (f : A → Parser B) (P : A → Type 0) (Q : B → Type 0) (hp : Tidy p P) (hf : (a : A) → P a → Tidy (f a) Q) where
   pub tidy-bind : Tidy (p >>= f) Q
@@ -65,6 +71,15 @@ module _ {A : Type 0} where
   pub tidy-weaken : (p : Parser A) (P Q : A → Type 0) → Tidy p P → ((a : A) → P a → Q a) → Tidy p Q
   tidy-weaken p P Q h f = record { asks = h .asks; leaves = h .leaves; gives = λ bs a rest e. f a (h .gives bs a rest e) }
 
+  -- the same parser, in other words
+  pub tidy-same : (p q : Parser A) (P : A → Type 0) → ((bs : List ℕ) → p bs ≡ q bs) → Tidy p P → Tidy q P
+  tidy-same p q P alike h =
+      record {
+        asks = λ bs r e. h .asks bs r (alike bs ∙ e);
+        leaves = λ bs a rest e. h .leaves bs a rest (alike bs ∙ e);
+        gives = λ bs a rest e. h .gives bs a rest (alike bs ∙ e);
+      }
+
 module _ {A : Type 0} where
   -- the same parser so many times
   pub tidy-times : (k : ℕ) (p : Parser A) (P : A → Type 0) → Tidy p P → Tidy (times k p) (λ xs. (length xs ≡ k) × All P xs)
@@ -96,9 +111,24 @@ tidy-count most =
 
 -- ---- answers
 
--- the bytes left are those from their cursor on
+-- the cursor of the bytes from a place on
 pub cursor-drop : (bytes : List ℕ) (at : ℕ) → at ≤ length bytes → length bytes - length (drop at bytes) ≡ at
 cursor-drop bytes at h = omega (arith, length-drop at bytes)
+
+-- the bytes from a place on, even past the end, are those from their cursor on
+drop-cursor : (bytes : List ℕ) (at : ℕ) → drop at bytes ≡ drop (length bytes - length (drop at bytes)) bytes
+drop-cursor bytes at =
+    by-test (leb at (length bytes)) (λ e. ap (λ (k : ℕ). drop k bytes) (sym (cursor-drop bytes at (leb-true _ _ e))))
+    (λ e. let n : length (drop at bytes) ≡ 0 = omega (arith, length-drop at bytes, leb-false at (length bytes) e) in
+    let m : length bytes ≡ length bytes - length (drop at bytes) = omega arith in
+    length-nil (drop at bytes) n ∙ sym (drop-length bytes) ∙ ap (λ (k : ℕ). drop k bytes) m)
+
+-- so are the bytes that a tidy parser leaves
+tidy-left : {A : Type 0} (p : Parser A) (P : A → Type 0) → Tidy p P → (bytes : List ℕ) (at : ℕ) (a : A) (rest : List ℕ) → p (drop at bytes) ≡ accepted a rest
+    → rest ≡ drop (length bytes - length rest) bytes
+tidy-left p P tidy bytes at a rest e =
+    let (u, lu, eu) = tidy .leaves (drop at bytes) a rest e in
+    subst (λ (l : List ℕ). l ≡ drop (length bytes - length l) bytes) (sym (eu ∙ drop-drop u at bytes)) (drop-cursor bytes (at + u))
 
 module _ {A R : Type 0} where
   -- the answer `r` says that the parser accepts a value at the cursor `at`, and leaves the bytes from the cursor `next` on
@@ -109,7 +139,7 @@ module _ {A R : Type 0} where
     pub is : r ≡ shown (accepted value (drop next bytes))
     pub good : P value
 
-  module _ (p : Parser A) (P : A → Type 0) (tidy : Tidy p P) (bytes : List ℕ) (at : ℕ) (inside : at ≤ length bytes) (shown : Parsed A → R) (place : R → ℕ) (refusal : R → ℕ)
+  module _ (p : Parser A) (P : A → Type 0) (tidy : Tidy p P) (bytes : List ℕ) (at : ℕ) (shown : Parsed A → R) (place : R → ℕ) (refusal : R → ℕ)
       (no : (q : ℕ) → refusal (shown (refused q)) ≡ q)
       (yes : (a : A) (rest : List ℕ) → (refusal (shown (accepted a rest)) ≡ 0) × (place (shown (accepted a rest)) ≡ length bytes - length rest)) (r : R) (is : r ≡ shown (p (drop at bytes))) where
     pub answered : refusal r ≡ 0 → Answer p P bytes at shown (place r) r
@@ -118,15 +148,12 @@ module _ {A R : Type 0} where
         go : (x : Parsed A) → p (drop at bytes) ≡ x → Answer p P bytes at shown (place r) r
         go (refused q) e = absurd (omega (arith, tidy .asks (drop at bytes) q e, sym (no q) ∙ ap refusal (ap shown (sym e) ∙ sym is) ∙ z))
         go (accepted a rest) e =
-            let (u, lu, eu) = tidy .leaves (drop at bytes) a rest e in
             let n : place r ≡ length bytes - length rest = ap place (is ∙ ap shown e) ∙ yes a rest .1 in
-            let d : rest ≡ drop (at + u) bytes = eu ∙ drop-drop u at bytes in
-            let k : place r ≡ at + u = omega (arith, n, ap length d, length-drop (at + u) bytes, length-drop at bytes, lu) in
-            let f : rest ≡ drop (place r) bytes = d ∙ ap (λ (i : ℕ). drop i bytes) (sym k) in
+            let f : rest ≡ drop (place r) bytes = tidy-left p P tidy bytes at a rest e ∙ ap (λ (i : ℕ). drop i bytes) (sym n) in
             record {
               value = a;
               parsed = e ∙ ap (accepted a) f;
-              within = omega (arith, k, lu, length-drop at bytes);
+              within = omega (arith, n);
               is = is ∙ ap shown (e ∙ ap (accepted a) f);
               good = tidy .gives (drop at bytes) a rest e;
             }

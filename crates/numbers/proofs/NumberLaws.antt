@@ -14,9 +14,9 @@ use borrow.Author.Tests.{le-ltb, lt-ltb, ltb-true}
 use Rattle.guard.specs.Number.{Parsed, Parsed.accepted, Parsed.refused, Parser, _>>_, andThen, ask, return, unsigned}
 use Rattle.guard.specs.File.{count, kind, name}
 use Rattle.guard.proofs.Reading.{Reads, reads-unsigned}
-use Rattle.number.specs.declared.Number.{Number}
-use Rattle.number.specs.Reader.{asNumber, below, belowAt, lastFits, numberAt, refusal}
-use Rattle.number.proofs.Groups.{lastByte, numberFrom, unsigned-is}
+use Rattle.numbers.specs.declared.Number.{Number}
+use Rattle.numbers.specs.Reader.{asNumber, below, belowAt, lastFits, numberAt, refusal}
+use Rattle.numbers.proofs.Groups.{lastByte, numberFrom, unsigned-is}
 
 -- ---- one number of the definition
 

@@ -6,7 +6,7 @@ use Prim.Native.Nat.{ℕ, _+_, _-_, _*_, _≤_}
 use lib.Dec.{eqb, leb, ltb}
 use lib.ListN.{length, drop}
 use Rattle.guard.specs.Number.{Parsed, Parsed.accepted, Parsed.refused, Parser, _>>=_, _>>_, ask, return, unsigned}
-use Rattle.number.specs.declared.Number.{Number}
+use Rattle.numbers.specs.declared.Number.{Number}
 
 -- the question that refused, and nothing else
 abbrev pub refusal : ℕ → Number

@@ -4,7 +4,7 @@
 ghost use mathlib.Core.Path.{_≡_};
 ghost use Prim.Native.Nat.{ℕ, _<_, _≤_};
 ghost use Rattle.guard.specs.Number.{foldSigned, unfoldSigned};
-ghost use Rattle.number.specs.Reader.{refusal, lastGroup, numberAt, belowAt};
+ghost use Rattle.numbers.specs.Reader.{refusal, lastGroup, numberAt, belowAt};
 
 // What a read found. `refused` is 0, or the question that refused, and then `value` and `at` are 0 too.
 // `at` is the cursor after the number.

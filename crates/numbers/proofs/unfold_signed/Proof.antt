@@ -1,4 +1,4 @@
--- `number::unfold_signed` meets its contract, in the two cases of its test. Assumes nothing.
+-- `numbers::unfold_signed` meets its contract, in the two cases of its test. Assumes nothing.
 use mathlib.Core.Path.{_≡_, ap, _∙_}
 use Prim.Native.Nat.{_/_}
 use native.Mathlib.Omega.{arith}
@@ -6,10 +6,10 @@ use lib.IntN.{ℤ, negsuc, _-ℤ_}
 use mir.Syntax.{w32}
 use mir.Val.{SFits, toZ, ofZ}
 use mir.Facts.{toZ-pos, toZ-ofZ}
-use Rattle.number.proofs.Signed.{less-not-negative, unfold-even, unfold-odd}
+use Rattle.numbers.proofs.Signed.{less-not-negative, unfold-even, unfold-odd}
 use borrow.Author.Needs.{needs}
-use Rattle.number.proofs.unfold_signed.Statement.{statement}
-use Rattle.number.proofs.unfold_signed.Tie as tie
+use Rattle.numbers.proofs.unfold_signed.Statement.{statement}
+use Rattle.numbers.proofs.unfold_signed.Tie as tie
 
 -- −1 − half
 less : (c : tie.Else1) → negsuc 0 -ℤ toZ w32 (c .before .args .n / 2) ≡ negsuc (c .before .args .n / 2)

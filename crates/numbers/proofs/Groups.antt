@@ -15,7 +15,7 @@ use borrow.Author.Tests.{lt-ltb, le-ltb, le-leb, lt-leb, eq-eqb, ne-eqb, ltb-tru
 use Rattle.laws.proofs.Bools.{and-both, or-right}
 use Rattle.laws.specs.Lists.{last}
 use Rattle.guard.specs.Number.{Parsed, Parsed.accepted, Parsed.refused, Parser, _>>=_, _>>_, andThen, ask, groups, return, unsigned, valueOfGroups, wellFormed, width32}
-use Rattle.number.specs.Reader.{asNumber, found, lastFits, lastGroup, refusal}
+use Rattle.numbers.specs.Reader.{asNumber, found, lastFits, lastGroup, refusal}
 
 -- the last byte of a number, over the groups before it
 unfoldable pub lastByte : ℕ → ℕ → ℕ → Parser ℕ

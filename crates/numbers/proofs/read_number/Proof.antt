@@ -1,4 +1,4 @@
--- `number::read_number` meets its contract. The loop's invariant: the parser from here on, over the groups read, is the
+-- `numbers::read_number` meets its contract. The loop's invariant: the parser from here on, over the groups read, is the
 -- parser of the whole number. Assumes nothing.
 use mathlib.Core.Path.{_≡_, refl, sym, ap, _∙_}
 use mathlib.Core.List.{List}
@@ -7,10 +7,10 @@ use native.Mathlib.Omega.{arith}
 use lib.ListN.{getD, drop}
 use borrow.Author.Needs.{needs}
 use Rattle.guard.specs.Number.{unsigned}
-use Rattle.number.specs.Reader.{asNumber, numberAt}
-use Rattle.number.proofs.Groups.{numberFrom, unsigned-is, from-end, from-last, from-more, from-none, last-answer, group-fits, group-small, weight-small, weight-next}
-use Rattle.number.proofs.read_number.Statement.{statement}
-use Rattle.number.proofs.read_number.Tie as tie
+use Rattle.numbers.specs.Reader.{asNumber, numberAt}
+use Rattle.numbers.proofs.Groups.{numberFrom, unsigned-is, from-end, from-last, from-more, from-none, last-answer, group-fits, group-small, weight-small, weight-next}
+use Rattle.numbers.proofs.read_number.Statement.{statement}
+use Rattle.numbers.proofs.read_number.Tie as tie
 
 abbrev Inv-loop : tie.InvT-loop
 Inv-loop bytes at next₀ low₀ weight₀ read₀ next low weight read =

@@ -1,12 +1,12 @@
--- `number::read_below` meets its contract: it asks after `read_number` what the parser asks. Assumes nothing.
+-- `numbers::read_below` meets its contract: it asks after `read_number` what the parser asks. Assumes nothing.
 use mathlib.Core.Path.{_∙_, sym}
 use mathlib.Core.Logic.{⊎-elim}
 use native.Mathlib.Omega.{arith}
 use borrow.Author.Tests.{leb-true, leb-false}
 use borrow.Author.Needs.{needs}
-use Rattle.number.proofs.NumberLaws.{over-limit, under-limit, no-number}
-use Rattle.number.proofs.read_below.Statement.{statement}
-use Rattle.number.proofs.read_below.Tie as tie
+use Rattle.numbers.proofs.NumberLaws.{over-limit, under-limit, no-number}
+use Rattle.numbers.proofs.read_below.Statement.{statement}
+use Rattle.numbers.proofs.read_below.Tie as tie
 
 read-number-requires : tie.Need-read-number-requires
 read-number-requires c κs = search needs
