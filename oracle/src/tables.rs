@@ -53,6 +53,7 @@ fn entries(guard: &Guard) -> Vec<u32> {
         column(TYPES, defaults),
         rows(guard),
         lines(guard),
+        siblings(guard),
     ]
     .concat()
 }
@@ -151,6 +152,40 @@ fn lines(guard: &Guard) -> Vec<u32> {
     [vec![entry(lines.len())], place(0), place(1), place(2)].concat()
 }
 
+/// For each row three places: the terms of a read's fields, in order of position;
+/// and two: the types of its sibling fields, each plus one.
+fn siblings(guard: &Guard) -> Vec<u32> {
+    let mut fields = Vec::new();
+    let mut sorts = Vec::new();
+    for (number, row) in guard.rows.iter().enumerate() {
+        let mut terms = Vec::new();
+        let mut types = Vec::new();
+        if let Row::Read {
+            term,
+            variant,
+            position,
+        } = *row
+        {
+            for (place, &ty) in guard
+                .fields(guard.row_types[term], variant)
+                .iter()
+                .enumerate()
+            {
+                if place == position {
+                    terms.push(number);
+                } else {
+                    terms.push(ROWS + 2 * number + types.len());
+                    types.push(ty + 1);
+                }
+            }
+        }
+        fields.extend(three(&terms));
+        types.resize(2, 0);
+        sorts.extend(types);
+    }
+    [column(FIELDS * ROWS, fields), column(2 * ROWS, sorts)].concat()
+}
+
 #[cfg(test)]
 mod tests {
     use super::*;
@@ -196,6 +231,8 @@ mod tests {
             padded(64, &[0, 1, 2, 3]),
             padded(64, &[2, 0, 3, 0]),
             padded(64, &[3, 3, 1, 0]),
+            padded(72, &[0, 0, 0, 0, 0, 0, 0, 0, 0, 30, 3]),
+            padded(48, &[0, 0, 0, 0, 0, 0, 1]),
         ];
         assert_eq!(entries(&guard), expected.concat());
     }

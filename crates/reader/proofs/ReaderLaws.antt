@@ -9,13 +9,17 @@ use lib.ListN.{length, drop, getD, List·getD-eq-default}
 use borrow.Author.Tests.{ltb-true, ltb-false}
 use Rattle.laws.specs.All.{All, All.more, All.none}
 use Rattle.laws.proofs.Bools.{by-test}
-use Rattle.guard.specs.File.{literal}
-use Rattle.guard.specs.Guard.{Literal, Row, noRow, typeAt, typeOf}
-use Rattle.guard.specs.Limits.{Limits, Supported}
+use Rattle.guard.specs.File.{file, literal}
+use Rattle.guard.specs.Guard.{Guard, Literal, Row, noRow, typeAt, typeOf}
+use Rattle.guard.specs.Limits.{Limits, Supported, totalVariantLimit}
 use Rattle.guard.specs.Number.{Parsed, Parsed.accepted, Parsed.refused, _>>_, andThen, ask, return}
 use Rattle.guard.specs.Types.{Types, allDefaults, defaults, fieldsOf, infiniteFields}
-use Rattle.guard.proofs.Accepted.{RowsFit, accepted-rows, row-type}
-use Rattle.tables.specs.Layout.{TypesInRange, defaultColumn, literalTable, rowTable, typeTable, typesOf}
+use Rattle.guard.proofs.Accepted.{RowsFit, accepted-rows, accepted-well-formed, row-type}
+use Rattle.guard.specs.WellFormed.{WellFormed}
+use Rattle.siblings.specs.Siblings.{ReadsInRange, siblingsBy, siblingsIn}
+use Rattle.siblings.specs.declared.Siblings.{Siblings}
+use Rattle.siblings.proofs.SiblingLaws.{reads-in-range, siblings-are}
+use Rattle.tables.specs.Layout.{flat, TypesInRange, defaultColumn, literalTable, rowTable, typeTable, typesOf}
 use Rattle.tables.specs.declared.RowTable.{RowTable}
 use Rattle.tables.specs.declared.TypeTable.{TypeTable}
 use Rattle.tables.proofs.Lookups.{row-type-anywhere, variants-at}
@@ -49,12 +53,16 @@ many-rows ts rs = refl
 pub supported : (types terms lines : ℕ) → Supported (limitsOf types terms lines)
 supported types terms lines = record { types = omega arith; terms = omega arith; lines = omega arith }
 
+-- what the file is read to, from what the parser answers
+tables-by : (limits : Limits) (bytes : List ℕ) (r : Parsed Guard) → file limits bytes ≡ r → asTables r ≡ tablesAt limits bytes
+unfolding tablesAt
+tables-by limits bytes r e = sym (ap asTables e)
+
 -- ---- types
 
 module _ (limits : Limits) (fits : Supported limits) (bytes : List ℕ) (t : TypesRead) (isT : t ≡ typesAt bytes (limits .types)) where
   pub types-stop : ¬ (t .refused ≡ 0) → noTables (t .refused) ≡ tablesAt limits bytes
-  unfolding tablesAt
-  types-stop n = sym (ap asTables (file-parts limits bytes ∙ ap (andThen (afterTypes limits)) (types-refused bytes (limits .types) t isT n)))
+  types-stop n = tables-by limits bytes (refused (t .refused)) (file-parts limits bytes ∙ ap (andThen (afterTypes limits)) (types-refused bytes (limits .types) t isT n))
 
   module _ (typesRead : t .refused ≡ 0) where
     found : TypesFound bytes (limits .types) t
@@ -66,9 +74,8 @@ module _ (limits : Limits) (fits : Supported limits) (bytes : List ℕ) (t : Typ
     pub table-range : TypesInRange (t .table)
     table-range = found .range
 
-    at-facts : tablesAt limits bytes ≡ asTables (afterTypes limits ts (drop (t .at) bytes))
-    unfolding tablesAt
-    at-facts = ap asTables (file-parts limits bytes ∙ ap (andThen (afterTypes limits)) (found .parsed))
+    at-facts : file limits bytes ≡ afterTypes limits ts (drop (t .at) bytes)
+    at-facts = file-parts limits bytes ∙ ap (andThen (afterTypes limits)) (found .parsed)
 
     pub few-variants : EachBelow 17 (t .table .variants)
     few-variants i = omega (arith, table-range .variants i)
@@ -93,25 +100,25 @@ module _ (limits : Limits) (fits : Supported limits) (bytes : List ℕ) (t : Typ
           facts ∙ ap (λ (x : Bool). cond x (cond (infiniteFields ts) settled (refusedAt 9)) (refusedAt 8)) p
           ∙ ap (λ (x : Bool). cond a (cond x settled (refusedAt 9)) (refusedAt 8)) q
 
-      file-by : (a b : Bool) → allDefaults ts ≡ a → infiniteFields ts ≡ b → tablesAt limits bytes ≡ asTables ((ask 8 a >> (ask 9 b >> afterFacts limits ts)) (drop (t .at) bytes))
+      file-by : (a b : Bool) → allDefaults ts ≡ a → infiniteFields ts ≡ b → file limits bytes ≡ (ask 8 a >> (ask 9 b >> afterFacts limits ts)) (drop (t .at) bytes)
       file-by a b p q =
-          at-facts ∙ ap (λ (x : Bool). asTables ((ask 8 x >> (ask 9 (infiniteFields ts) >> afterFacts limits ts)) (drop (t .at) bytes))) p
-          ∙ ap (λ (x : Bool). asTables ((ask 8 a >> (ask 9 x >> afterFacts limits ts)) (drop (t .at) bytes))) q
+          at-facts ∙ ap (λ (x : Bool). (ask 8 x >> (ask 9 (infiniteFields ts) >> afterFacts limits ts)) (drop (t .at) bytes)) p
+          ∙ ap (λ (x : Bool). (ask 8 a >> (ask 9 x >> afterFacts limits ts)) (drop (t .at) bytes)) q
 
       pub facts-stop : ¬ (f .refused ≡ 0) → noTables (f .refused) ≡ tablesAt limits bytes
       facts-stop n = go (allDefaults ts) (infiniteFields ts) refl refl
         where
           go : (a b : Bool) → allDefaults ts ≡ a → infiniteFields ts ≡ b → noTables (f .refused) ≡ tablesAt limits bytes
-          go false b p q = ap (λ (x : TypeFacts). noTables (x .refused)) (facts-by false b p q) ∙ sym (file-by false b p q)
-          go true false p q = ap (λ (x : TypeFacts). noTables (x .refused)) (facts-by true false p q) ∙ sym (file-by true false p q)
+          go false b p q = ap (λ (x : TypeFacts). noTables (x .refused)) (facts-by false b p q) ∙ tables-by limits bytes (refused 8) (file-by false b p q)
+          go true false p q = ap (λ (x : TypeFacts). noTables (x .refused)) (facts-by true false p q) ∙ tables-by limits bytes (refused 9) (file-by true false p q)
           go true true p q = absurd (n (ap (λ (x : TypeFacts). x .refused) (facts-by true true p q)))
 
       module _ (factsRead : f .refused ≡ 0) where
-        past-facts : (tablesAt limits bytes ≡ asTables (afterFacts limits ts (drop (t .at) bytes))) × (f .defaults ≡ defaultColumn (defaults ts))
+        past-facts : (file limits bytes ≡ afterFacts limits ts (drop (t .at) bytes)) × (f .defaults ≡ defaultColumn (defaults ts))
         past-facts = go (allDefaults ts) (infiniteFields ts) refl refl
           where
             go : (a b : Bool) → allDefaults ts ≡ a → infiniteFields ts ≡ b
-                → (tablesAt limits bytes ≡ asTables (afterFacts limits ts (drop (t .at) bytes))) × (f .defaults ≡ defaultColumn (defaults ts))
+                → (file limits bytes ≡ afterFacts limits ts (drop (t .at) bytes)) × (f .defaults ≡ defaultColumn (defaults ts))
             go false b p q = absurd (omega (arith, factsRead, ap (λ (x : TypeFacts). x .refused) (facts-by false b p q)))
             go true false p q = absurd (omega (arith, factsRead, ap (λ (x : TypeFacts). x .refused) (facts-by true false p q)))
             go true true p q = (file-by true true p q, ap (λ (x : TypeFacts). x .defaults) (facts-by true true p q))
@@ -123,7 +130,7 @@ module _ (limits : Limits) (fits : Supported limits) (bytes : List ℕ) (t : Typ
           rows-at = isN ∙ ap (rowsAt bytes (t .at) (limits .terms)) (found .back)
 
           pub rows-stop : ¬ (n .refused ≡ 0) → noTables (n .refused) ≡ tablesAt limits bytes
-          rows-stop h = sym (past-facts .0 ∙ ap (λ (r : Parsed (List Row)). asTables (andThen (afterRows limits ts) r)) (rows-refused bytes (t .at) (limits .terms) ts n rows-at h))
+          rows-stop h = tables-by limits bytes (refused (n .refused)) (past-facts .0 ∙ ap (andThen (afterRows limits ts)) (rows-refused bytes (t .at) (limits .terms) ts n rows-at h))
 
           module _ (rowsRead : n .refused ≡ 0) where
             rows : RowsFound bytes (t .at) (limits .terms) ts n
@@ -132,8 +139,8 @@ module _ (limits : Limits) (fits : Supported limits) (bytes : List ℕ) (t : Typ
             abbrev rs : List Row
             rs = rows .rows
 
-            at-literals : tablesAt limits bytes ≡ asTables (afterRows limits ts rs (drop (n .at) bytes))
-            at-literals = past-facts .0 ∙ ap (λ (r : Parsed (List Row)). asTables (andThen (afterRows limits ts) r)) (rows .parsed)
+            at-literals : file limits bytes ≡ afterRows limits ts rs (drop (n .at) bytes)
+            at-literals = past-facts .0 ∙ ap (andThen (afterRows limits ts)) (rows .parsed)
 
             count-is : n .rows .many ≡ length rs
             count-is = ap (λ (x : RowTable). x .many) (rows .table) ∙ many-rows ts rs
@@ -167,30 +174,62 @@ module _ (limits : Limits) (fits : Supported limits) (bytes : List ℕ) (t : Typ
                   ∙ ap (λ (x : RowTable). literalsAt bytes (n .at) (limits .lines) (typeTable ts .variants) (length rs) (x .types)) (rows .table)
                   ∙ literals-are ts rs (typeTable ts .variants) (rowTable ts rs .types) (variants-at ts) (row-type-anywhere ts rs) bytes (n .at) (limits .lines)
 
-              past-literals : (r : Parsed (List Literal)) → literalsBy (limits .lines) (literal ts rs) (drop (n .at) bytes) ≡ r
-                  → tablesAt limits bytes ≡ asTables (andThen (λ ls. return (record { types = ts; rows = rs; literals = ls })) r)
-              past-literals r e = at-literals ∙ ap (λ (x : Parsed (List Literal)). asTables (andThen (λ ls. return (record { types = ts; rows = rs; literals = ls })) x)) e
+              abbrev guard : List Literal → Guard
+              guard ls = record { types = ts; rows = rs; literals = ls }
+
+              abbrev last : Parsed (List Literal)
+              last = literalsBy (limits .lines) (literal ts rs) (drop (n .at) bytes)
+
+              past-literals : (r : Parsed (List Literal)) → last ≡ r → file limits bytes ≡ andThen (λ ls. return (guard ls)) r
+              past-literals r e = at-literals ∙ ap (andThen (λ ls. return (guard ls))) e
 
               pub literals-stop : ¬ (l .refused ≡ 0) → noTables (l .refused) ≡ tablesAt limits bytes
               unfolding asLiterals noLiterals
-              literals-stop h = go (literalsBy (limits .lines) (literal ts rs) (drop (n .at) bytes)) refl
+              literals-stop h = go last refl
                 where
-                  go : (r : Parsed (List Literal)) → literalsBy (limits .lines) (literal ts rs) (drop (n .at) bytes) ≡ r → noTables (l .refused) ≡ tablesAt limits bytes
-                  go (refused q) e = ap (λ (x : LiteralsRead). noTables (x .refused)) (literals-at ∙ ap asLiterals e) ∙ sym (past-literals (refused q) e)
+                  go : (r : Parsed (List Literal)) → last ≡ r → noTables (l .refused) ≡ tablesAt limits bytes
+                  go (refused q) e = ap (λ (x : LiteralsRead). noTables (x .refused)) (literals-at ∙ ap asLiterals e) ∙ tables-by limits bytes (refused q) (past-literals (refused q) e)
                   go (accepted ls rest) e = absurd (h (ap (λ (x : LiteralsRead). x .refused) (literals-at ∙ ap asLiterals e)))
 
-              pub all-read : l .refused ≡ 0 → record { refused = 0; types = t .table; defaults = f .defaults; rows = n .rows; literals = l .literals } ≡ tablesAt limits bytes
-              unfolding asLiterals noLiterals guardTables
-              all-read z = go (literalsBy (limits .lines) (literal ts rs) (drop (n .at) bytes)) refl
-                where
-                  go : (r : Parsed (List Literal)) → literalsBy (limits .lines) (literal ts rs) (drop (n .at) bytes) ≡ r
-                      → record { refused = 0; types = t .table; defaults = f .defaults; rows = n .rows; literals = l .literals } ≡ tablesAt limits bytes
-                  go (refused q) e =
-                      absurd (omega (arith, z, ap (λ (x : LiteralsRead). x .refused) (literals-at ∙ ap asLiterals e), tidy-literals (limits .lines) ts rs .asks (drop (n .at) bytes) q e))
-                  go (accepted ls rest) e =
-                      let a : t .table ≡ typeTable ts = found .table in
-                      let b : f .defaults ≡ defaultColumn (defaults ts) = past-facts .1 in
-                      let c : n .rows ≡ rowTable ts rs = rows .table in
-                      let d : l .literals ≡ literalTable ls = ap (λ (x : LiteralsRead). x .literals) (literals-at ∙ ap asLiterals e) in
-                      let same : Path Tables (record { refused = 0; types = t .table; defaults = f .defaults; rows = n .rows; literals = l .literals }) (record { refused = 0; types = typeTable ts; defaults = defaultColumn (defaults ts); rows = rowTable ts rs; literals = literalTable ls }) = cc in
-                      same ∙ sym (past-literals (accepted ls rest) e)
+              module _ (literalsRead : l .refused ≡ 0) where
+                -- the whole file is read
+                record Whole : Type 0 where
+                  ls : List Literal
+                  rest : List ℕ
+                  parsed : file limits bytes ≡ accepted (guard ls) rest
+                  table : l .literals ≡ literalTable ls
+
+                whole : Whole
+                unfolding asLiterals noLiterals
+                whole = go last refl
+                  where
+                    go : (r : Parsed (List Literal)) → last ≡ r → Whole
+                    go (refused q) e =
+                        absurd (omega (arith, literalsRead, ap (λ (x : LiteralsRead). x .refused) (literals-at ∙ ap asLiterals e), tidy-literals (limits .lines) ts rs .asks (drop (n .at) bytes) q e))
+                    go (accepted ls rest) e =
+                        record { ls = ls; rest = rest; parsed = past-literals (accepted ls rest) e; table = ap (λ (x : LiteralsRead). x .literals) (literals-at ∙ ap asLiterals e) }
+
+                well-formed : WellFormed limits (guard (whole .ls))
+                well-formed = accepted-well-formed limits fits bytes (guard (whole .ls)) (whole .rest) (whole .parsed)
+
+                few-in-all : length (flat ts) ≤ totalVariantLimit
+                few-in-all = omega (arith, found .fit .1)
+
+                pub reads-there : ReadsInRange (n .rows .many) (n .rows .kinds) (n .rows .types) (n .rows .variants) (n .rows .parts) (t .table .first)
+                reads-there =
+                    subst (λ (x : RowTable). ReadsInRange (x .many) (x .kinds) (x .types) (x .variants) (x .parts) (t .table .first)) (sym (rows .table))
+                    (subst (λ (x : TypeTable). ReadsInRange (rowTable ts rs .many) (rowTable ts rs .kinds) (rowTable ts rs .types) (rowTable ts rs .variants) (rowTable ts rs .parts) (x .first)) (sym (found .table))
+                    (reads-in-range limits fits (guard (whole .ls)) well-formed few-in-all))
+
+                pub all-read : (sb : Siblings) → sb ≡ siblingsBy (t .table) (n .rows)
+                    → record { refused = 0; types = t .table; defaults = f .defaults; rows = n .rows; literals = l .literals; siblings = sb } ≡ tablesAt limits bytes
+                unfolding guardTables
+                all-read sb isS =
+                    let a : t .table ≡ typeTable ts = found .table in
+                    let b : f .defaults ≡ defaultColumn (defaults ts) = past-facts .1 in
+                    let c : n .rows ≡ rowTable ts rs = rows .table in
+                    let d : l .literals ≡ literalTable (whole .ls) = whole .table in
+                    let e : sb ≡ siblingsIn ts rs =
+                    isS ∙ ap (λ (x : TypeTable). siblingsBy x (n .rows)) a ∙ ap (siblingsBy (typeTable ts)) c ∙ siblings-are limits fits (guard (whole .ls)) well-formed few-in-all in
+                    let same : Path Tables (record { refused = 0; types = t .table; defaults = f .defaults; rows = n .rows; literals = l .literals; siblings = sb }) (guardTables (guard (whole .ls))) = cc in
+                    same ∙ tables-by limits bytes (accepted (guard (whole .ls)) (whole .rest)) (whole .parsed)

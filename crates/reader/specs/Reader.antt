@@ -7,6 +7,7 @@ use Rattle.guard.specs.Limits.{Limits, base}
 use Rattle.guard.specs.Number.{Parsed, Parsed.accepted, Parsed.refused}
 use Rattle.guard.specs.Types.{defaults}
 use Rattle.tables.specs.Layout.{defaultColumn, literalTable, rowTable, typeTable}
+use Rattle.siblings.specs.Siblings.{siblingsIn}
 use Rattle.reader.specs.declared.Tables.{Tables}
 
 -- the limits that the reader keeps: those asked for, as far as its tables have room
@@ -14,7 +15,7 @@ abbrev pub limitsOf : ℕ → ℕ → ℕ → Limits
 limitsOf types terms lines = record { types = min types 6; terms = min terms 24; lines = min lines 64; rows = base .rows }
 
 unfoldable pub noTables : ℕ → Tables
-noTables q = record { refused = q; types = typeTable []; defaults = defaultColumn []; rows = rowTable [] []; literals = literalTable [] }
+noTables q = record { refused = q; types = typeTable []; defaults = defaultColumn []; rows = rowTable [] []; literals = literalTable []; siblings = siblingsIn [] [] }
 
 -- the tables of a guard
 unfoldable pub guardTables : Guard → Tables
@@ -25,6 +26,7 @@ guardTables g =
       defaults = defaultColumn (defaults (g .types));
       rows = rowTable (g .types) (g .rows);
       literals = literalTable (g .literals);
+      siblings = siblingsIn (g .types) (g .rows);
     }
 
 abbrev pub asTables : Parsed Guard → Tables

@@ -1,4 +1,5 @@
 // Reads a guard file into tables, or says which of the questions 2 to 10 gets the first no.
+use siblings::Siblings;
 use tables::LiteralTable;
 use tables::RowTable;
 use tables::TypeTable;
@@ -14,6 +15,8 @@ pub struct Tables {
     pub defaults: [u8; 6],
     pub rows: RowTable,
     pub literals: LiteralTable,
+    // the terms of each read's fields, and the types of its sibling fields
+    pub siblings: Siblings,
 }
 
 fn at_most(n: u32, limit: u32) -> u32
@@ -55,6 +58,10 @@ fn no_tables(question: u32) -> Tables
             terms: none64,
             others: none64,
         },
+        siblings: Siblings {
+            fields: [0u8; 72],
+            sorts: [0u8; 48],
+        },
     }
 }
 
@@ -91,11 +98,13 @@ pub fn read(bytes: &[u8], types: u32, terms: u32, lines: u32) -> Tables
     }
     let defaults = f.defaults;
     let literals = l.literals;
+    let siblings = siblings::sibling_fields(table, rows);
     Tables {
         refused: 0,
         types: table,
         defaults,
         rows,
         literals,
+        siblings,
     }
 }

@@ -2,6 +2,7 @@
 // its tables and a sum over all their entries. Packed: a 2-byte length, the file, and a 4-byte budget, low byte first. A
 // length above 2,048 ends the run, as 65535 does after the last file.
 use reader::Tables;
+use siblings::Siblings;
 use tables::LiteralTable;
 use tables::RowTable;
 use tables::TypeTable;
@@ -80,11 +81,17 @@ fn mix_literals(start: u64, table: LiteralTable) -> u64 {
     mix_bytes(sum, &others)
 }
 
+fn mix_siblings(start: u64, table: Siblings) -> u64 {
+    let fields = table.fields;
+    let sorts = table.sorts;
+    mix_bytes(mix_bytes(start, &fields), &sorts)
+}
+
 fn mix_tables(t: Tables) -> u64 {
     let defaults = t.defaults;
     let types = mix_types(0, t.types);
     let rows = mix_rows(mix_bytes(types, &defaults), t.rows);
-    mix_literals(rows, t.literals)
+    mix_siblings(mix_literals(rows, t.literals), t.siblings)
 }
 
 // ---- the lines

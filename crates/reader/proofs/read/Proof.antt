@@ -1,6 +1,6 @@
 -- `read` meets its contract: it asks the readers of the parts in the order of the file. Assumes nothing.
+use Rattle.reader.proofs.ReaderLaws.{all-read, facts-stop, few-rows, few-variants, literals-stop, reads-there, rows-stop, supported, table-range, types-stop, types-there}
 use mathlib.Core.Path.{_≡_, _∙_, ap}
-use Rattle.reader.proofs.ReaderLaws.{all-read, facts-stop, few-rows, few-variants, literals-stop, rows-stop, supported, table-range, types-stop, types-there}
 use Rattle.reader.specs.Reader.{limitsOf}
 use Rattle.literalreader.specs.LiteralReader.{literalsAt}
 use Rattle.rowreader.specs.RowReader.{rowsAt}
@@ -107,8 +107,8 @@ returns-4 c =
     let isL = l .ensures ∙ ap (λ k. literalsAt (s .bytes .now) (n .result .at) k (t .result .table .variants) (n .result .rows .many) (n .result .rows .types)) (c .before .before .before .before .before .before .at-most3 .ensures) in
     c .no-tables4 .ensures ∙ literals-stop (limitsOf (s .types) (s .terms) (s .lines)) (supported (s .types) (s .terms) (s .lines)) (s .bytes .now) (t .result) isT t0 (f .result) (f .ensures) f0 (n .result) isN n0 (l .result) isL (omega arith)
 
-returns-5 : tie.Need-returns-5
-returns-5 c =
+sibling-fields-requires : tie.Need-sibling-fields-requires
+sibling-fields-requires c κs =
     let s = c .before .before .before .before .before .before .before .before .before .before .before .before .before .before .before .before .before .before .before .before .before .before .before .before .args in
     let t = c .before .before .before .before .before .before .before .before .before .before .before .before .before .before .before .before .before .before .before .before .before .read-types in
     let isT = t .ensures ∙ ap (typesAt (s .bytes .now)) (c .before .before .before .before .before .before .before .before .before .before .before .before .before .before .before .before .before .before .before .before .before .before .at-most .ensures) in
@@ -120,7 +120,24 @@ returns-5 c =
     let n0 : n .result .refused ≡ 0 = omega (arith, c .before .before .before .before .before .before .before .before .before .before .before .if3 .left) in
     let l = c .before .before .before .before .read-literals in
     let isL = l .ensures ∙ ap (λ k. literalsAt (s .bytes .now) (n .result .at) k (t .result .table .variants) (n .result .rows .many) (n .result .rows .types)) (c .before .before .before .before .before .before .before .at-most3 .ensures) in
-    all-read (limitsOf (s .types) (s .terms) (s .lines)) (supported (s .types) (s .terms) (s .lines)) (s .bytes .now) (t .result) isT t0 (f .result) (f .ensures) f0 (n .result) isN n0 (l .result) isL (omega arith)
+    let l0 : l .result .refused ≡ 0 = omega (arith, c .before .before .if4 .left) in
+    (table-range (limitsOf (s .types) (s .terms) (s .lines)) (supported (s .types) (s .terms) (s .lines)) (s .bytes .now) (t .result) isT t0, reads-there (limitsOf (s .types) (s .terms) (s .lines)) (supported (s .types) (s .terms) (s .lines)) (s .bytes .now) (t .result) isT t0 (f .result) (f .ensures) f0 (n .result) isN n0 (l .result) isL l0)
+
+returns-5 : tie.Need-returns-5
+returns-5 c =
+    let s = c .before .before .before .before .before .before .before .before .before .before .before .before .before .before .before .before .before .before .before .before .before .before .before .before .before .args in
+    let t = c .before .before .before .before .before .before .before .before .before .before .before .before .before .before .before .before .before .before .before .before .before .before .read-types in
+    let isT = t .ensures ∙ ap (typesAt (s .bytes .now)) (c .before .before .before .before .before .before .before .before .before .before .before .before .before .before .before .before .before .before .before .before .before .before .before .at-most .ensures) in
+    let t0 : t .result .refused ≡ 0 = omega (arith, c .before .before .before .before .before .before .before .before .before .before .before .before .before .before .before .before .before .before .before .before .if1 .left) in
+    let f = c .before .before .before .before .before .before .before .before .before .before .before .before .before .before .before .before .before .before .type-facts in
+    let f0 : f .result .refused ≡ 0 = omega (arith, c .before .before .before .before .before .before .before .before .before .before .before .before .before .before .before .before .if2 .left) in
+    let n = c .before .before .before .before .before .before .before .before .before .before .before .before .before .before .read-rows in
+    let isN = n .ensures ∙ ap (λ k. rowsAt (s .bytes .now) (t .result .at) k (typesOf (t .result .table))) (c .before .before .before .before .before .before .before .before .before .before .before .before .before .before .before .at-most2 .ensures) in
+    let n0 : n .result .refused ≡ 0 = omega (arith, c .before .before .before .before .before .before .before .before .before .before .before .before .if3 .left) in
+    let l = c .before .before .before .before .before .read-literals in
+    let isL = l .ensures ∙ ap (λ k. literalsAt (s .bytes .now) (n .result .at) k (t .result .table .variants) (n .result .rows .many) (n .result .rows .types)) (c .before .before .before .before .before .before .before .before .at-most3 .ensures) in
+    let l0 : l .result .refused ≡ 0 = omega (arith, c .before .before .before .if4 .left) in
+    all-read (limitsOf (s .types) (s .terms) (s .lines)) (supported (s .types) (s .terms) (s .lines)) (s .bytes .now) (t .result) isT t0 (f .result) (f .ensures) f0 (n .result) isN n0 (l .result) isL l0 (c .sibling-fields .result) (c .sibling-fields .ensures)
 
 pub read-spec : {M : Type 1} → statement M
 read-spec =
@@ -141,4 +158,5 @@ read-spec =
     read-literals-requires
     no-tables-requires-4
     returns-4
+    sibling-fields-requires
     returns-5)

@@ -1,0 +1,143 @@
+-- Entries of the columns, case by case as the code tells them apart, and columns filled from the front. Assumes nothing.
+use mathlib.Core.Path.{_≡_, ap, sym, _∙_}
+use mathlib.Core.Bool.{Bool, cond}
+use mathlib.Core.List.{List, [], _∷_, _++_, map}
+use Prim.Native.Nat.{ℕ, _+_, _*_, _≤_, _<_}
+use native.Mathlib.Nat.{zero-add}
+use native.Mathlib.Numerals.{add-one}
+use native.Mathlib.Omega.{arith}
+use lib.Dec.{ltb}
+use lib.ListN.{length, getD, set, replicate}
+use borrow.Author.Tests.{eq-eqb, ne-eqb, lt-ltb, le-ltb}
+use Rattle.laws.specs.Lists.{from}
+use Rattle.laws.proofs.Lists.{map-from-length, map-from-snoc}
+use Rattle.tables.specs.Layout.{TypesInRange, pad}
+use Rattle.tables.proofs.Columns.{pad-nil, pad-set}
+use Rattle.tables.specs.declared.TypeTable.{TypeTable}
+use Rattle.siblings.specs.declared.Siblings.{Siblings}
+use Rattle.siblings.specs.Siblings.{SortsInRange, entry, fieldEntry, fieldTermAt, placeAt, siblingPosition, sortEntry}
+
+-- ---- terms and positions
+
+pub own-term : (r p q : ℕ) → q ≡ p → r ≡ fieldTermAt r p q
+unfolding fieldTermAt
+own-term r p q e = sym (ap (λ (b : Bool). cond b r (cond (ltb q p) (24 + 2 * r + q) (23 + 2 * r + q))) (eq-eqb q p e))
+
+other-term : (r p q : ℕ) (b : Bool) → ¬ (q ≡ p) → ltb q p ≡ b → cond b (24 + 2 * r + q) (23 + 2 * r + q) ≡ fieldTermAt r p q
+unfolding fieldTermAt
+other-term r p q b n e =
+    sym (ap (λ (b : Bool). cond b r (cond (ltb q p) (24 + 2 * r + q) (23 + 2 * r + q))) (ne-eqb q p n) ∙ ap (λ (b : Bool). cond b (24 + 2 * r + q) (23 + 2 * r + q)) e)
+
+pub term-before : (r p q : ℕ) → q < p → 24 + 2 * r + q ≡ fieldTermAt r p q
+term-before r p q h = other-term r p q _ (λ e. omega arith) (lt-ltb q p h)
+
+pub term-after : (r p q : ℕ) → p < q → 23 + 2 * r + q ≡ fieldTermAt r p q
+term-after r p q h = other-term r p q _ (λ e. omega arith) (le-ltb q p (omega arith))
+
+pub position-before : (p k : ℕ) → k < p → k ≡ siblingPosition p k
+unfolding siblingPosition
+position-before p k h = sym (ap (λ (b : Bool). cond b k (k + 1)) (lt-ltb k p h))
+
+pub position-after : (p k : ℕ) → p ≤ k → k + 1 ≡ siblingPosition p k
+unfolding siblingPosition
+position-after p k h = sym (ap (λ (b : Bool). cond b k (k + 1)) (le-ltb k p h))
+
+pub position-small : (p k : ℕ) → k < 2 → siblingPosition p k < 3
+unfolding siblingPosition
+position-small p k h = go (ltb k p)
+  where
+    go : (b : Bool) → cond b k (k + 1) < 3
+    go Bool.true = omega arith
+    go Bool.false = omega arith
+
+-- ---- the place of the variant read
+
+pub place-is : (types variants parts first : List ℕ) (i a t start v : ℕ) → a ≡ getD parts (3 * i) 0 → t ≡ getD types a 0 → start ≡ getD first t 0 → v ≡ getD variants i 0
+    → start + v ≡ placeAt types variants parts first i
+unfolding placeAt
+place-is types variants parts first i a t start v isA isT isStart isV =
+    let e : start ≡ getD first (getD types (getD parts (3 * i) 0) 0) 0 = isStart ∙ ap (λ (k : ℕ). getD first k 0) (isT ∙ ap (λ (k : ℕ). getD types k 0) isA) in
+    omega (arith, e, isV)
+
+-- ---- entries
+
+entry-other : (kind arity q n : ℕ) → ¬ (kind ≡ 3) → 0 ≡ entry kind arity q n
+entry-other kind arity q n h = sym (ap (λ (b : Bool). cond b (cond (ltb q arity) n 0) 0) (ne-eqb kind 3 h))
+
+entry-past : (kind arity q n : ℕ) → kind ≡ 3 → arity ≤ q → 0 ≡ entry kind arity q n
+entry-past kind arity q n e h =
+    sym (ap (λ (b : Bool). cond b (cond (ltb q arity) n 0) 0) (eq-eqb kind 3 e) ∙ ap (λ (b : Bool). cond b n 0) (le-ltb q arity h))
+
+entry-of : (kind arity q n : ℕ) → kind ≡ 3 → q < arity → n ≡ entry kind arity q n
+entry-of kind arity q n e h =
+    sym (ap (λ (b : Bool). cond b (cond (ltb q arity) n 0) 0) (eq-eqb kind 3 e) ∙ ap (λ (b : Bool). cond b n 0) (lt-ltb q arity h))
+
+module _ (kinds types variants parts first arities : List ℕ) (i : ℕ) where
+  pub field-other : (q : ℕ) → ¬ (getD kinds i 0 ≡ 3) → 0 ≡ fieldEntry kinds types variants parts first arities i q
+  unfolding fieldEntry
+  field-other q h = entry-other (getD kinds i 0) _ q _ h
+
+  pub sort-other : (sorts : List ℕ) (k : ℕ) → ¬ (getD kinds i 0 ≡ 3) → 0 ≡ sortEntry kinds types variants parts first arities sorts i k
+  unfolding sortEntry
+  sort-other sorts k h = entry-other (getD kinds i 0) _ (siblingPosition (getD parts (3 * i + 1) 0) k) _ h
+
+  -- w is the variant read and has arity a
+  module _ (isRead : getD kinds i 0 ≡ 3) (w a : ℕ) (isW : w ≡ placeAt types variants parts first i) (isA : a ≡ getD arities w 0) where
+    is-arity : a ≡ getD arities (placeAt types variants parts first i) 0
+    is-arity = isA ∙ ap (λ (k : ℕ). getD arities k 0) isW
+
+    pub field-past : (q : ℕ) → a ≤ q → 0 ≡ fieldEntry kinds types variants parts first arities i q
+    unfolding fieldEntry
+    field-past q h = entry-past (getD kinds i 0) (getD arities (placeAt types variants parts first i) 0) q _ isRead (omega (arith, is-arity))
+
+    pub field-of : (q x : ℕ) → q < a → x ≡ fieldTermAt i (getD parts (3 * i + 1) 0) q → x ≡ fieldEntry kinds types variants parts first arities i q
+    unfolding fieldEntry
+    field-of q x h e = e ∙ entry-of (getD kinds i 0) (getD arities (placeAt types variants parts first i) 0) q _ isRead (omega (arith, is-arity))
+
+    -- q is the position of sibling k
+    module _ (sorts : List ℕ) (p k q : ℕ) (isP : p ≡ getD parts (3 * i + 1) 0) (isQ : q ≡ siblingPosition p k) where
+      is-position : q ≡ siblingPosition (getD parts (3 * i + 1) 0) k
+      is-position = isQ ∙ ap (λ (n : ℕ). siblingPosition n k) isP
+
+      pub sort-past : a ≤ q → 0 ≡ sortEntry kinds types variants parts first arities sorts i k
+      unfolding sortEntry
+      sort-past h =
+          entry-past (getD kinds i 0) (getD arities (placeAt types variants parts first i) 0) (siblingPosition (getD parts (3 * i + 1) 0) k) _ isRead
+          (omega (arith, is-arity, is-position))
+
+      pub sort-of-sibling : q < a → getD sorts (3 * w + q) 0 + 1 ≡ sortEntry kinds types variants parts first arities sorts i k
+      unfolding sortEntry
+      sort-of-sibling h =
+          let e : 3 * w + q ≡ 3 * placeAt types variants parts first i + siblingPosition (getD parts (3 * i + 1) 0) k = omega (arith, isW, is-position) in
+          ap (λ (n : ℕ). getD sorts n 0 + 1) e
+          ∙ entry-of (getD kinds i 0) (getD arities (placeAt types variants parts first i) 0) (siblingPosition (getD parts (3 * i + 1) 0) k) _ isRead
+          (omega (arith, is-arity, is-position))
+
+-- ---- columns of n places, filled from the front
+
+module _ (n : ℕ) (f : ℕ → ℕ) where
+  abbrev pub filled : ℕ → List ℕ
+  filled i = pad n (map f (from i 0))
+
+  pub filled-none : replicate n 0 ≡ filled 0
+  filled-none = sym (pad-nil 0 n)
+
+  pub filled-next : (i : ℕ) (column : List ℕ) (x : ℕ) → i < n → column ≡ filled i → x ≡ f i → set column i x ≡ filled (i + 1)
+  filled-next i column x h e q =
+      let l : length (map f (from i 0)) ≡ i = map-from-length f i 0 in
+      ap (λ (c : List ℕ). set c i x) e ∙ ap (set (filled i) i) q ∙ ap (λ (k : ℕ). set (filled i) k (f i)) (sym l) ∙ pad-set 0 n (map f (from i 0)) (f i) (omega arith)
+      ∙ ap (pad n) (ap (λ (k : ℕ). map f (from i 0) ++ (f k ∷ [])) (sym (zero-add i)) ∙ sym (map-from-snoc f i 0) ∙ ap (λ (k : ℕ). map f (from k 0)) (sym (add-one i)))
+
+  pub filled-end : (i m : ℕ) (column : List ℕ) → i ≤ m → m ≤ i → column ≡ filled i → column ≡ filled m
+  filled-end i m column h l e = let q : i ≡ m = omega arith in e ∙ ap filled q
+
+-- ---- the tables' own columns
+
+pub sorts-in-range : (table : TypeTable) → TypesInRange table → SortsInRange (table .arities) (table .sorts)
+sorts-in-range table r w j h = omega (arith, r .many, r .sorts w j h)
+
+pub both-columns : (s : Siblings) (fields sorts : List ℕ) → fields ≡ s .fields → sorts ≡ s .sorts → _≡_ {A = Siblings} (record { fields = fields; sorts = sorts }) s
+both-columns s fields sorts e q = ap (columns sorts) e ∙ ap (λ (x : List ℕ). columns x (s .fields)) q
+  where
+    columns : List ℕ → List ℕ → Siblings
+    columns ss fs = record { fields = fs; sorts = ss }

@@ -1,0 +1,4 @@
+pub mod EntryLaws
+pub mod RowEntries
+pub mod SiblingLaws
+pub mod ReadLaws
