@@ -25,7 +25,9 @@ use Rattle.guard.specs.Limits.{variantLimit}
 use Rattle.guard.specs.Rules.{AllSame, Alone, BuiltAt, BuiltAt.read, BuiltAt.row, ObeysLiterals, ObeysRules, Relation}
 use Rattle.guard.specs.Terms.{Build, Const, Read, Table, Term, asBuild, fieldless, termCount}
 use Rattle.guard.specs.Types.{variantsOf}
-use Rattle.guard.proofs.ClosureEnds.{saturate-ind}
+use Rattle.guard.proofs.AnswerLaws.{enough}
+use Rattle.guard.proofs.ClosureEnds.{first, saturate-ind}
+use Rattle.guard.proofs.Repeats.{room}
 
 all-pairwise : {B : Type 0} {P : Fact → Type 0} (f : B → B → List Fact) (ys : List B) → ((x y : B) → List·Memᴰ x ys → List·Memᴰ y ys → All P (f x y)) → All P (pairwise f ys)
 all-pairwise f [] h = none
@@ -77,19 +79,19 @@ module _ (t : Table) (ls : List Literal) (ranged : InRange t) (literalsIn : Lite
     pub class : (i : ℕ) → i < termCount → Same i (classOf s i)
     pub label : (c v : ℕ) → c < termCount → v < variantLimit → bit (getD (s .labels) c 0) v ≡ 0 → Lacks c v
 
-  data Valid : Fact → Type 0 where
+  pub data Valid : Fact → Type 0 where
     same-valid : {i j : ℕ} → i < termCount → j < termCount → Same i j → Valid (same i j)
     within-valid : {i m : ℕ} → i < termCount → ((v : ℕ) → v < variantLimit → bit m v ≡ 0 → Lacks i v) → Valid (within i m)
 
   module _ (s : State) (ok : Sound s) where
-    same-valid-at : (i j : ℕ) → i < termCount → j < termCount → SameAt s i j → Same i j
+    pub same-valid-at : (i j : ℕ) → i < termCount → j < termCount → SameAt s i j → Same i j
     same-valid-at i j hi hj e =
         o .through (ok .class i hi) (subst (λ (c : ℕ). Same c j) (sym e) (o .back (ok .class j hj)))
 
     class-same : (i j : ℕ) → i < termCount → j < termCount → sameClass s i j ≡ true → Same i j
     class-same i j hi hj e = same-valid-at i j hi hj (eqb-true _ _ e)
 
-    lacks-valid : (i v : ℕ) → i < termCount → v < variantLimit → bit (labelOf s i) v ≡ 0 → Lacks i v
+    pub lacks-valid : (i v : ℕ) → i < termCount → v < variantLimit → bit (labelOf s i) v ≡ 0 → Lacks i v
     lacks-valid i v hi hv e = o .shared (o .back (ok .class i hi)) (ok .label (classOf s i) v (ok .range i hi) hv e)
 
     cut-sound : (i m : ℕ) → Valid (within i m) → Sound (add s (within i m))
@@ -169,7 +171,7 @@ module _ (t : Table) (ls : List Literal) (ranged : InRange t) (literalsIn : Lite
     unite-sound i j hi hj e true = ok
     unite-sound i j hi hj e false = merge-sound i j hi hj e
 
-  add-sound : (s : State) → Sound s → (f : Fact) → Valid f → Sound (add s f)
+  pub add-sound : (s : State) → Sound s → (f : Fact) → Valid f → Sound (add s f)
   add-sound s ok (same i j) (same-valid hi hj e) = unite-sound s ok i j hi hj e (sameClass s i j)
   add-sound s ok (within i m) v = cut-sound s ok i m v
 
@@ -266,7 +268,7 @@ module _ (t : Table) (ls : List Literal) (ranged : InRange t) (literalsIn : Lite
         one (r .row) (r .absent) (ranged .reads r m .0) (ranged .reads r m .3)
         (o .absent r m (lacks-valid s ok (r .term) (r .variant) (ranged .reads r m .1) (ranged .reads r m .2) (eqb-true _ _ e))))
 
-    rules-valid : All Valid (consequences t s)
+    pub rules-valid : All Valid (consequences t s)
     unfolding consequences
     rules-valid = all-append (all-append (all-append
         (all-pairwise (builtRows s) (buildsAt t s) (λ a b ma mb. built-valid a b (all-mem fine-all a ma) (all-mem fine-all b mb)))
@@ -297,21 +299,25 @@ module _ (t : Table) (ls : List Literal) (ranged : InRange t) (literalsIn : Lite
       more (within-valid (literalsIn (isnt i v) m .0)
       (λ u hu e. subst (λ (x : ℕ). Lacks i x) (sym (bit-but v u (literalsIn (isnt i v) m .1) hu e)) (asserted .isntLiteral i v m))) none
 
-  given-valid : All Valid (given t ls)
+  pub given-valid : All Valid (given t ls)
   given-valid =
       all-append (all-append (all-append
       (all-map (allVariants (t .types)) (t .terms) (λ x m. within-valid (ranged .terms x m .0) (λ v hv e. o .beyond x v m (bit-ones (length (variantsOf (t .types) (x .type))) v (omega (arith, ranged .terms x m .1)) hv e))))
       (all-map oneVariant (t .builds) (λ b m. only (b .term) (b .variant) (ranged .builds b m .0) (ranged .builds b m .1) (o .built b m))))
       (all-pairwise constants (t .consts) const-valid)) (all-concatMap ofLiteral ls literal-valid)
 
-  initial-sound : Sound initial
-  unfolding initial
-  initial-sound =
+  pub first-sound : (room : ℕ) → termCount ≤ room → Sound (first room)
+  unfolding first
+  first-sound room enough =
       record {
-        range = λ i hi. omega (arith, from-at termCount 0 i 0 hi);
-        class = λ i hi. let e : i ≡ classOf initial i = omega (arith, from-at termCount 0 i 0 hi) in subst (λ (x : ℕ). Same i x) e (o .itself i);
-        label = λ c v hc hv e. absurd (omega (arith, bit-ones variantLimit v (omega arith) hv (rw (getD-replicate termCount c everyVariant 0 hc) at e)));
+        range = λ i hi. omega (arith, from-at room 0 i 0 (omega arith));
+        class = λ i hi. let e : i ≡ classOf (first room) i = omega (arith, from-at room 0 i 0 (omega arith)) in subst (λ (x : ℕ). Same i x) e (o .itself i);
+        label = λ c v hc hv e. absurd (omega (arith, bit-ones variantLimit v (omega arith) hv (rw (getD-replicate room c everyVariant 0 (omega arith)) at e)));
       }
+
+  initial-sound : Sound initial
+  unfolding initial first
+  initial-sound = first-sound termCount (omega arith)
 
   begin-sound : Sound (begin t ls)
   begin-sound = adds-sound initial initial-sound (given t ls) given-valid

@@ -6,14 +6,19 @@ use Prim.Native.Nat.{ℕ, zero, suc, _≤_, _<_, min, max}
 use native.Mathlib.Omega.{arith}
 use lib.Dec.{leb, eqb}
 use lib.Bits.{bitAnd, and-le-l, and-le-r}
-use lib.ListN.{getD}
+use lib.ListN.{getD, replicate}
 use borrow.Author.Tests.{leb-true, leb-false, eqb-true, eqb-false, not-true}
-use Rattle.laws.specs.Lists.{sum}
+use Rattle.laws.specs.Lists.{from, sum}
 use Rattle.laws.proofs.Lists.{filter-head}
 use Rattle.laws.proofs.Stores.{sum-set-le, sum-set-lt}
-use Rattle.guard.specs.Closure.{Fact, Fact.same, Fact.within, State, add, begin, classOf, closureOf, consequences, fresh, holds, labelOf, merge, mergeUnless, nextRound, rename, sameClass, saturate, size}
+use Rattle.guard.specs.Closure.{Fact, Fact.same, Fact.within, State, add, begin, classOf, closureOf, consequences, everyVariant, fresh, holds, labelOf, merge, mergeUnless, nextRound, rename, sameClass, saturate, size}
 use Rattle.guard.specs.Guard.{Literal}
 use Rattle.guard.specs.Terms.{Table}
+use Rattle.guard.proofs.Repeats.{room}
+
+-- each term in a class of its own, with room for more terms than there are
+unfoldable pub first : ℕ → State
+first room = record { classes = from room 0; labels = replicate room everyVariant }
 
 -- one class, renamed
 renamed-le : (low high c : ℕ) → low ≤ high → cond (eqb c high) low c ≤ c

@@ -8,7 +8,7 @@ use Prim.Native.Nat.{ℕ, _^_, _<_, min, max}
 use native.Mathlib.Omega.{arith}
 use lib.Dec.{leb, eqb}
 use lib.Bits.{bitAnd, and-le-l}
-use lib.ListN.{getD, set, replicate, getD-replicate, List·getD-eq-default}
+use lib.ListN.{getD, set, replicate, getD-replicate, length-replicate, List·getD-eq-default}
 use borrow.Author.Tests.{leb-true, leb-false, eqb-true, eqb-false, not-false}
 use Rattle.laws.specs.All.{All, All.more, All.none}
 use Rattle.laws.specs.Bits.{bit}
@@ -21,12 +21,12 @@ use Rattle.guard.specs.Guard.{Literal}
 use Rattle.guard.specs.Limits.{variantLimit}
 use Rattle.guard.specs.Terms.{Table, termCount}
 use Rattle.guard.proofs.ClosureBelow.{rename-at}
-use Rattle.guard.proofs.ClosureEnds.{adds-ind, closed-under, saturate-ind}
+use Rattle.guard.proofs.ClosureEnds.{adds-ind, closed-under, first, saturate-ind}
 
 -- `s′` says all that `s` says
-record Keeps (s s′ : State) : Type 0 where
-  class : (i j : ℕ) → classOf s i ≡ classOf s j → classOf s′ i ≡ classOf s′ j
-  label : (i v : ℕ) → bit (labelOf s i) v ≡ 0 → bit (labelOf s′ i) v ≡ 0
+pub record Keeps (s s′ : State) : Type 0 where
+  pub class : (i j : ℕ) → classOf s i ≡ classOf s j → classOf s′ i ≡ classOf s′ j
+  pub label : (i v : ℕ) → bit (labelOf s i) v ≡ 0 → bit (labelOf s′ i) v ≡ 0
 
 keeps-refl : (s : State) → Keeps s s
 keeps-refl s = record { class = λ i j e. e; label = λ i v e. e }
@@ -84,7 +84,7 @@ unite-keeps : (b : Bool) (s : State) (c d : ℕ) → Keeps s (mergeUnless b s c 
 unite-keeps true s c d = keeps-refl s
 unite-keeps false s c d = merge-keeps s c d
 
-add-keeps : (s : State) (f : Fact) → Keeps s (add s f)
+pub add-keeps : (s : State) (f : Fact) → Keeps s (add s f)
 add-keeps s (same i j) = unite-keeps (sameClass s i j) s (classOf s i) (classOf s j)
 add-keeps s (within k m) = cut-keeps s k m
 
@@ -165,7 +165,7 @@ Small s = (c : ℕ) → getD (s .labels) c 0 < 2 ^ variantLimit
 small-set : (l : List ℕ) → ((c : ℕ) → getD l c 0 < 2 ^ variantLimit) → (i v : ℕ) → v < 2 ^ variantLimit → (c : ℕ) → getD (set l i v) c 0 < 2 ^ variantLimit
 small-set l h i v hv c = set-ind (λ x. x < 2 ^ variantLimit) l i v c (omega arith) (λ q. hv) (h c)
 
-add-small : (s : State) → Small s → (f : Fact) → Small (add s f)
+pub add-small : (s : State) → Small s → (f : Fact) → Small (add s f)
 unfolding Small
 add-small s h (within i m) = small-set (s .labels) h (classOf s i) (bitAnd (labelOf s i) m) (omega (arith, and-le-l (labelOf s i) m, h (classOf s i)))
 add-small s h (same i j) = go (sameClass s i j)
@@ -180,13 +180,17 @@ add-small s h (same i j) = go (sameClass s i j)
     go true = h
     go false = small-set (s .labels) h (min c d) (bitAnd (getD (s .labels) c 0) (getD (s .labels) d 0)) (omega (arith, and-le-l (getD (s .labels) c 0) (getD (s .labels) d 0), h c))
 
-initial-small : Small initial
-unfolding Small initial
-initial-small c = go (leb termCount c) refl
+pub first-small : (room : ℕ) → Small (first room)
+unfolding Small first
+first-small room c = go (leb room c) refl
   where
-    go : (b : Bool) → leb termCount c ≡ b → getD (replicate termCount everyVariant) c 0 < 2 ^ variantLimit
-    go true e = rw (List·getD-eq-default (replicate termCount everyVariant) 0 (leb-true termCount c e)) (omega arith)
-    go false e = rw (getD-replicate termCount c everyVariant 0 (leb-false termCount c e)) (omega arith)
+    go : (b : Bool) → leb room c ≡ b → getD (replicate room everyVariant) c 0 < 2 ^ variantLimit
+    go true e = rw (List·getD-eq-default (replicate room everyVariant) 0 {n = c} (omega (arith, length-replicate room everyVariant, leb-true room c e))) (omega arith)
+    go false e = rw (getD-replicate room c everyVariant 0 (leb-false room c e)) (omega arith)
+
+initial-small : Small initial
+unfolding initial first
+initial-small = first-small termCount
 
 pub closure-masks : (t : Table) (ls : List Literal) → Small (closureOf t ls)
 unfolding closureOf

@@ -238,8 +238,8 @@ module _ (t : Table) (ls : List Literal) (ranged : InRange t) (literalsIn : Lite
       go : All (Says S) (within i (everyVariant - 2 ^ v) ∷ []) → LacksAt S i v
       go (more e es) = cut i (everyVariant - 2 ^ v) e v (but-own v (literalsIn (isnt i v) m .1))
 
-  rules′ : ObeysRules t (SameAt S) (LacksAt S)
-  rules′ =
+  pub obeys-rules : ObeysRules t (SameAt S) (LacksAt S)
+  obeys-rules =
       record {
         itself = λ i. refl;
         back = λ e. sym e;
@@ -255,15 +255,15 @@ module _ (t : Table) (ls : List Literal) (ranged : InRange t) (literalsIn : Lite
         absent = absent′;
       }
 
-  literals′ : ObeysLiterals ls (SameAt S) (LacksAt S)
-  literals′ = record { equalLiteral = equal-literal; isLiteral = is-literal; isntLiteral = isnt-literal }
+  pub obeys-literals : ObeysLiterals ls (SameAt S) (LacksAt S)
+  obeys-literals = record { equalLiteral = equal-literal; isLiteral = is-literal; isntLiteral = isnt-literal }
 
 -- the closure is the least one, as far as its numbers are those of terms and variants
 pub closure-least : (t : Table) (ls : List Literal) → InRange t → LiteralsInRange ls → LeastClosure t ls (SameAt (closureOf t ls)) (LacksAt (closureOf t ls))
 closure-least t ls r l =
     record {
-      rules = rules′ t ls r l (closureOf t ls) (closure-masks t ls) (says-given t ls) (holds-rules t ls);
-      literals = literals′ t ls r l (closureOf t ls) (closure-masks t ls) (says-given t ls) (holds-rules t ls);
+      rules = obeys-rules t ls r l (closureOf t ls) (closure-masks t ls) (says-given t ls) (holds-rules t ls);
+      literals = obeys-literals t ls r l (closureOf t ls) (closure-masks t ls) (says-given t ls) (holds-rules t ls);
       leastSame = λ Same Lacks o a i j hi hj e. below-same t ls r l Same Lacks o a i j hi hj e;
       leastLacks = λ Same Lacks o a i v hi hv e. below-lacks t ls r l Same Lacks o a i v hi hv e;
     }

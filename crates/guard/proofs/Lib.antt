@@ -2,6 +2,7 @@ pub mod ClosureEnds
 pub mod ClosureBelow
 pub mod ClosureState
 pub mod LeastClosure
+pub mod AnyOrder
 pub mod Reading
 pub mod Accepted
 pub mod MessageLaws
