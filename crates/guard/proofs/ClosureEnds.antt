@@ -80,11 +80,11 @@ cut-lt : (s : State) (i m : ℕ) → holds s (within i m) ≡ false → size (ad
 cut-lt s i m e =
     omega (arith, sum-set-lt (s .labels) (classOf s i) (bitAnd (labelOf s i) m) (omega (arith, and-le-l (labelOf s i) m, eqb-false (bitAnd (labelOf s i) m) (labelOf s i) e)))
 
-add-lt : (s : State) (f : Fact) → holds s f ≡ false → size (add s f) < size s
+pub add-lt : (s : State) (f : Fact) → holds s f ≡ false → size (add s f) < size s
 add-lt s (same i j) e = rw e (merge-lt s i j e)
 add-lt s (within i m) e = cut-lt s i m e
 
-add-le : (s : State) (f : Fact) → size (add s f) ≤ size s
+pub add-le : (s : State) (f : Fact) → size (add s f) ≤ size s
 add-le s (within i m) = cut-le s i m
 add-le s (same i j) = go (sameClass s i j) refl
   where

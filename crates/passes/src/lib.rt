@@ -1,0 +1,1 @@
+// What a pass of the saturation has to show: see `specs/Pass.antt`.
