@@ -7,9 +7,9 @@ use mathlib.Core.Bool.{Bool, true, false, cond}
 use mathlib.Core.List.{List, [], _∷_}
 use Prim.Native.Nat.{ℕ, zero, suc, _+_, _-_, _*_, _≤_, _<_, _%_}
 use native.Mathlib.Omega.{arith}
-use native.Mathlib.Nat.{zero-add, suc-add}
 use lib.Dec.{leb, ltb, leb·suc-suc}
 use lib.ListN.{length, drop, length-drop}
+use lib.Seq.{drop-drop}
 use borrow.Author.Tests.{le-ltb, lt-ltb, ltb-true}
 use Rattle.guard.specs.Number.{Parsed, Parsed.accepted, Parsed.refused, Parser, _>>_, andThen, ask, return, unsigned}
 use Rattle.guard.specs.File.{count, kind, name}
@@ -65,15 +65,6 @@ question (suc k) low weight (b ∷ bs) q e = pick (question k (low + b % 128 * w
 pub unsigned-question : (bs : List ℕ) (q : ℕ) → unsigned bs ≡ refused q → 0 < q
 unsigned-question bs q e = question 5 0 1 bs q (sym (unsigned-is bs) ∙ e)
 
-drop-none : (n : ℕ) → _≡_ {A = List ℕ} (drop n []) []
-drop-none zero = refl
-drop-none (suc n) = refl
-
-drop-twice : (i u : ℕ) (l : List ℕ) → drop u (drop i l) ≡ drop (i + u) l
-drop-twice zero u l = rw (zero-add u) refl
-drop-twice (suc i) u [] = drop-none u ∙ sym (drop-none (suc i + u))
-drop-twice (suc i) u (x ∷ l) = drop-twice i u l ∙ sym (rw (suc-add i u) refl)
-
 -- *Cursor law.* A number at `at` leaves the bytes from the next cursor on, past `at` and in the bytes.
 pub record Passed (bytes : List ℕ) (at next value : ℕ) (rest : List ℕ) : Type 0 where
   pub left : rest ≡ drop next bytes
@@ -86,7 +77,7 @@ pub cursor : (bytes : List ℕ) (at v : ℕ) (rest : List ℕ) → unsigned (dro
 unfolding Reads
 cursor bytes at v rest e =
     let s = suffix 5 0 1 (drop at bytes) v rest (sym (unsigned-is (drop at bytes)) ∙ e) in
-    let r : rest ≡ drop (at + s .used) bytes = s .is ∙ drop-twice at (s .used) bytes in
+    let r : rest ≡ drop (at + s .used) bytes = s .is ∙ drop-drop (s .used) at bytes in
     let l : length rest ≡ length bytes - (at + s .used) = ap length r ∙ length-drop (at + s .used) bytes in
     let d : length (drop at bytes) ≡ length bytes - at = length-drop at bytes in
     let u : 0 < s .used = s .some in
