@@ -5,8 +5,24 @@ ghost use mathlib.Core.Bool.{not};
 ghost use Prim.Native.Nat.{_<_, min, max};
 ghost use lib.Bits.{bitAnd};
 ghost use lib.ListN.{length, getD, set};
-ghost use Rattle.guard.specs.Closure.{Fact.same, Fact.within, add, holds, rename};
+ghost use Rattle.guard.specs.Closure.{Fact.same, Fact.within, add, holds, labelOf, rename};
 ghost use Rattle.classes.specs.Held.{Held, state};
+
+// The class of a term.
+pub fn class_of(classes: &[u8; 96], i: u8) -> u8
+    requires { ⌜ i < 96 ⌝ }
+    ensures { λ r. ⌜ r ≡ getD (now (classes .entry)) i 0 ⌝ }
+{
+    classes[i as usize]
+}
+
+// The label of a term, which is that of its class.
+pub fn label_of(classes: &[u8; 96], labels: &[u16; 96], i: u8) -> u16
+    requires { ⌜ (i < 96) × Held (now classes) ⌝ }
+    ensures { λ r. ⌜ r ≡ labelOf (state (now (classes .entry)) (now (labels .entry))) i ⌝ }
+{
+    labels[classes[i as usize] as usize]
+}
 
 // Class `high` becomes `low`.
 fn rename(classes: &mut [u8; 96], low: u8, high: u8)

@@ -87,7 +87,7 @@ module _ (f : ℕ → ℕ) where
       ap (λ (j : ℕ). iterate j r) (let q : suc k * c ≡ c + k * c = omega arith in q) ∙ iterate-add c (k * c) r ∙ ap (iterate (k * c)) e ∙ iterate-rounds k c r e
 
   -- the lowest of x and the k numbers after it
-  abbrev lowest : ℕ → ℕ → ℕ
+  abbrev pub lowest : ℕ → ℕ → ℕ
   lowest zero x = x
   lowest (suc k) x = min x (lowest k (f x))
 

@@ -29,11 +29,30 @@ use Rattle.guard.proofs.AnswerLaws.{enough}
 use Rattle.guard.proofs.ClosureEnds.{first, saturate-ind}
 use Rattle.guard.proofs.Repeats.{room}
 
-all-pairwise : {B : Type 0} {P : Fact → Type 0} (f : B → B → List Fact) (ys : List B) → ((x y : B) → List·Memᴰ x ys → List·Memᴰ y ys → All P (f x y)) → All P (pairwise f ys)
+pub all-pairwise : {B : Type 0} {P : Fact → Type 0} (f : B → B → List Fact) (ys : List B) → ((x y : B) → List·Memᴰ x ys → List·Memᴰ y ys → All P (f x y)) → All P (pairwise f ys)
 all-pairwise f [] h = none
 all-pairwise f (y ∷ ys) h =
     all-append (all-concatMap (f y) ys (λ z m. h y z (List·Memᴰ·head refl) (List·Memᴰ·tail m)))
     (all-pairwise f ys (λ x z m n. h x z (List·Memᴰ·tail m) (List·Memᴰ·tail n)))
+
+-- what holds of the built rows, and of the reads whose variant is alone, holds of all builds at a state
+pub all-builds : {P : Build → Type 0} (t : Table) (s : State) → ((b : Build) → List·Memᴰ b (t .builds) → P b)
+    → ((r : Read) → List·Memᴰ r (t .reads) → alone s (r .term) (r .variant) ≡ true → P (asBuild r)) → All P (buildsAt t s)
+all-builds t s rows alones =
+    all-append (all-of (t .builds) rows) (all-concatMap (readBuild s) (t .reads) (λ r m. all-when (alone s (r .term) (r .variant)) (asBuild r ∷ []) (λ e. more (alones r m e) none)))
+
+-- what holds of the consequences for any two elements, family by family, holds of all consequences
+pub all-consequences : {P : Fact → Type 0} (t : Table) (s : State)
+    → ((a b : Build) → List·Memᴰ a (buildsAt t s) → List·Memᴰ b (buildsAt t s) → All P (builtRows s a b))
+    → ((a b : Read) → List·Memᴰ a (t .reads) → List·Memᴰ b (t .reads) → All P (reads s a b))
+    → ((a b : Term) → List·Memᴰ a (t .terms) → List·Memᴰ b (t .terms) → All P (single (t .types) s a b))
+    → ((r : Read) → List·Memᴰ r (t .reads) → All P (readAbsent s r)) → All P (consequences t s)
+unfolding consequences
+all-consequences t s builts readings singles absents = all-append (all-append (all-append
+    (all-pairwise (builtRows s) (buildsAt t s) builts)
+    (all-pairwise (reads s) (t .reads) readings))
+    (all-pairwise (single (t .types) s) (t .terms) singles))
+    (all-concatMap (readAbsent s) (t .reads) absents)
 
 pub eqZ-true : (a b : ℤ) → eqZ a b ≡ true → a ≡ b
 eqZ-true (pos a) (pos b) e = ap pos (eqb-true a b e)
@@ -41,7 +60,7 @@ eqZ-true (pos a) (negsuc b) e = absurd (false≢true e)
 eqZ-true (negsuc a) (pos b) e = absurd (false≢true e)
 eqZ-true (negsuc a) (negsuc b) e = ap negsuc (eqb-true a b e)
 
-pub rename-at : (low high : ℕ) (l : List ℕ) (i : ℕ) → low ≤ high → getD (rename low high l) i 0 ≡ cond (eqb (getD l i 0) high) low (getD l i 0)
+rename-at : (low high : ℕ) (l : List ℕ) (i : ℕ) → low ≤ high → getD (rename low high l) i 0 ≡ cond (eqb (getD l i 0) high) low (getD l i 0)
 rename-at low high [] i h = go (eqb 0 high) refl
   where
     go : (b : Bool) → eqb 0 high ≡ b → 0 ≡ cond b low 0
@@ -49,6 +68,10 @@ rename-at low high [] i h = go (eqb 0 high) refl
     go false e = refl
 rename-at low high (c ∷ cs) zero h = refl
 rename-at low high (c ∷ cs) (suc i) h = rename-at low high cs i h
+
+-- the class of a term after two classes are merged
+pub merge-at : (s : State) (c d k : ℕ) → classOf (merge s c d) k ≡ cond (eqb (classOf s k) (max c d)) (min c d) (classOf s k)
+merge-at s c d k = rename-at (min c d) (max c d) (s .classes) k (omega arith)
 
 -- every number of the table is that of a term or of a variant
 pub record InRange (t : Table) : Type 0 where
@@ -150,8 +173,8 @@ module _ (t : Table) (ls : List Literal) (ranged : InRange t) (literalsIn : Lite
         low-in : low < termCount
         low-in = omega (arith, ok .range i hi, ok .range j hj)
 
-        at : (k : ℕ) → getD (rename low high (s .classes)) k 0 ≡ cond (eqb (getD (s .classes) k 0) high) low (getD (s .classes) k 0)
-        at k = rename-at low high (s .classes) k (omega arith)
+        at : (k : ℕ) → classOf (merge s c d) k ≡ cond (eqb (classOf s k) high) low (classOf s k)
+        at = merge-at s c d
 
         moved : (k : ℕ) → k < termCount → getD (s .classes) k 0 ≡ high → Same k low
         moved k hk q = o .through (subst (λ (x : ℕ). Same k x) q (ok .class k hk)) (o .back (low-high c d c-d))
@@ -211,18 +234,12 @@ module _ (t : Table) (ls : List Literal) (ranged : InRange t) (literalsIn : Lite
       pub term : b .term < termCount
       pub parts : All In (b .parts)
 
-    fine-row : (b : Build) → List·Memᴰ b (t .builds) → Fine b
-    fine-row b m = record { at = row m; term = ranged .builds b m .0; parts = ranged .builds b m .2 }
-
-    fine-read : (r : Read) → List·Memᴰ r (t .reads) → All Fine (readBuild s r)
-    fine-read r m =
-        all-when (alone s (r .term) (r .variant)) (asBuild r ∷ [])
-        (λ e. more (record { at = read r m (alone-valid (r .term) (r .variant) (ranged .reads r m .1) (ranged .reads r m .2) e) refl; term = ranged .reads r m .1; parts = ranged .reads r m .4 }) none)
-
     pub fine-all : All Fine (buildsAt t s)
-    fine-all = all-append (all-of (t .builds) fine-row) (all-concatMap (readBuild s) (t .reads) fine-read)
+    fine-all =
+        all-builds t s (λ b m. record { at = row m; term = ranged .builds b m .0; parts = ranged .builds b m .2 })
+        (λ r m e. record { at = read r m (alone-valid (r .term) (r .variant) (ranged .reads r m .1) (ranged .reads r m .2) e) refl; term = ranged .reads r m .1; parts = ranged .reads r m .4 })
 
-    built-valid : (a b : Build) → Fine a → Fine b → All Valid (builtRows s a b)
+    pub built-valid : (a b : Build) → Fine a → Fine b → All Valid (builtRows s a b)
     built-valid a b fa fb =
         all-when (eqb (a .type) (b .type) && eqb (a .variant) (b .variant)) _ (λ e.
         let et : a .type ≡ b .type = eqb-true _ _ (and-left (eqb (a .type) (b .type)) (eqb (a .variant) (b .variant)) e) in
@@ -233,7 +250,7 @@ module _ (t : Table) (ls : List Literal) (ranged : InRange t) (literalsIn : Lite
         (all-when (sameClass s (a .term) (b .term)) (sameAll (a .parts) (b .parts))
         (λ q. all-same (a .parts) (b .parts) (fa .parts) (fb .parts) (o .parts a b (fa .at) (fb .at) et ev (class-same s ok (a .term) (b .term) (fa .term) (fb .term) q)))))
 
-    reads-valid : (a b : Read) → List·Memᴰ a (t .reads) → List·Memᴰ b (t .reads) → All Valid (reads s a b)
+    pub reads-valid : (a b : Read) → List·Memᴰ a (t .reads) → List·Memᴰ b (t .reads) → All Valid (reads s a b)
     reads-valid a b ma mb =
         all-when (e1 && (e2 && (e3 && e4))) (same (a .row) (b .row) ∷ []) (λ e.
         one (a .row) (b .row) (ranged .reads a ma .0) (ranged .reads b mb .0)
@@ -253,7 +270,7 @@ module _ (t : Table) (ls : List Literal) (ranged : InRange t) (literalsIn : Lite
         e4 : Bool
         e4 = sameClass s (a .term) (b .term)
 
-    single-valid : (a b : Term) → List·Memᴰ a (t .terms) → List·Memᴰ b (t .terms) → All Valid (single (t .types) s a b)
+    pub single-valid : (a b : Term) → List·Memᴰ a (t .terms) → List·Memᴰ b (t .terms) → All Valid (single (t .types) s a b)
     single-valid a b ma mb =
         all-when (eqb (a .type) (b .type) && any (λ v. alone s (a .term) v && alone s (b .term) v) (fieldless 0 (variantsOf (t .types) (a .type)))) (same (a .term) (b .term) ∷ []) (λ e.
         let (v, m, q) = any-some (λ v. alone s (a .term) v && alone s (b .term) v) (fieldless 0 (variantsOf (t .types) (a .type))) (and-right (eqb (a .type) (b .type)) _ e) in
@@ -262,19 +279,14 @@ module _ (t : Table) (ls : List Literal) (ranged : InRange t) (literalsIn : Lite
         (alone-valid (a .term) v (ranged .terms a ma .0) (ranged .fieldlesses a v ma m) (and-left (alone s (a .term) v) (alone s (b .term) v) q))
         (alone-valid (b .term) v (ranged .terms b mb .0) (ranged .fieldlesses a v ma m) (and-right (alone s (a .term) v) (alone s (b .term) v) q))))
 
-    absent-valid : (r : Read) → List·Memᴰ r (t .reads) → All Valid (readAbsent s r)
+    pub absent-valid : (r : Read) → List·Memᴰ r (t .reads) → All Valid (readAbsent s r)
     absent-valid r m =
         all-when (lacks s (r .term) (r .variant)) (same (r .row) (r .absent) ∷ []) (λ e.
         one (r .row) (r .absent) (ranged .reads r m .0) (ranged .reads r m .3)
         (o .absent r m (lacks-valid s ok (r .term) (r .variant) (ranged .reads r m .1) (ranged .reads r m .2) (eqb-true _ _ e))))
 
-    pub rules-valid : All Valid (consequences t s)
-    unfolding consequences
-    rules-valid = all-append (all-append (all-append
-        (all-pairwise (builtRows s) (buildsAt t s) (λ a b ma mb. built-valid a b (all-mem fine-all a ma) (all-mem fine-all b mb)))
-        (all-pairwise (reads s) (t .reads) reads-valid))
-        (all-pairwise (single (t .types) s) (t .terms) single-valid))
-        (all-concatMap (readAbsent s) (t .reads) absent-valid)
+    rules-valid : All Valid (consequences t s)
+    rules-valid = all-consequences t s (λ a b ma mb. built-valid a b (all-mem fine-all a ma) (all-mem fine-all b mb)) reads-valid single-valid absent-valid
 
   saturate-sound : (k : ℕ) (s : State) → Sound s → Sound (saturate k t s)
   saturate-sound = saturate-ind t Sound (λ s ok. adds-sound s ok (fresh t s) (all-filter (λ f. not (holds s f)) (rules-valid s ok)))

@@ -11,9 +11,9 @@ use borrow.Author.Tests.{leb-true, leb-false, eqb-true, eqb-false, not-true}
 use Rattle.laws.specs.Lists.{from, sum}
 use Rattle.laws.proofs.Lists.{filter-head}
 use Rattle.laws.proofs.Stores.{sum-set-le, sum-set-lt}
-use Rattle.guard.specs.Closure.{Fact, Fact.same, Fact.within, State, add, begin, classOf, closureOf, consequences, everyVariant, fresh, holds, labelOf, merge, mergeUnless, nextRound, rename, sameClass, saturate, size}
+use Rattle.guard.specs.Closure.{Fact, Fact.same, Fact.within, State, add, begin, classOf, closureOf, consequences, everyVariant, fresh, given, holds, initial, labelOf, merge, mergeUnless, nextRound, rename, sameClass, saturate, size}
 use Rattle.guard.specs.Guard.{Literal}
-use Rattle.guard.specs.Terms.{Table}
+use Rattle.guard.specs.Terms.{Table, termCount}
 use Rattle.guard.proofs.Repeats.{room}
 
 -- each term in a class of its own, with room for more terms than there are
@@ -136,3 +136,8 @@ saturate-ind t P h (suc k) s p = go (λ s′. saturate-ind t P h k s′) (fresh 
     go : ((s′ : State) → P s′ → P (saturate k t s′)) → (new : List Fact) → P (foldl add s new) → P (nextRound s new (saturate k t))
     go ih [] q = p
     go ih (f ∷ fs) q = ih (foldl add s (f ∷ fs)) q
+
+-- what holds of terms in classes of their own, and is kept by each fact, holds of the closure
+pub closure-ind : (P : State → Type 0) → P (first termCount) → ((s : State) (f : Fact) → P s → P (add s f)) → (t : Table) (ls : List Literal) → P (closureOf t ls)
+unfolding closureOf initial first
+closure-ind P p h t ls = saturate-ind t P (λ s. adds-ind P h (fresh t s) s) (size (begin t ls)) (begin t ls) (adds-ind P h (given t ls) initial p)

@@ -16,22 +16,22 @@ use Rattle.laws.proofs.Bits.{bit-and, bit-zero}
 use Rattle.laws.proofs.Bools.{cond-ind}
 use Rattle.laws.proofs.Lists.{all-of, all-weaken, filter-none}
 use Rattle.laws.proofs.Stores.{ends, set-ind, set-same}
-use Rattle.guard.specs.Closure.{Fact, Fact.same, Fact.within, State, add, begin, classOf, closureOf, consequences, everyVariant, fresh, given, holds, initial, labelOf, merge, mergeUnless, rename, sameClass, saturate, size}
+use Rattle.guard.specs.Closure.{Fact, Fact.same, Fact.within, State, add, begin, classOf, closureOf, consequences, everyVariant, fresh, given, holds, initial, labelOf, merge, mergeUnless, sameClass, saturate, size}
 use Rattle.guard.specs.Guard.{Literal}
 use Rattle.guard.specs.Limits.{variantLimit}
 use Rattle.guard.specs.Terms.{Table, termCount}
-use Rattle.guard.proofs.ClosureBelow.{rename-at}
-use Rattle.guard.proofs.ClosureEnds.{adds-ind, closed-under, first, saturate-ind}
+use Rattle.guard.proofs.ClosureBelow.{merge-at}
+use Rattle.guard.proofs.ClosureEnds.{adds-ind, closed-under, closure-ind, first, saturate-ind}
 
 -- `s′` says all that `s` says
 pub record Keeps (s s′ : State) : Type 0 where
   pub class : (i j : ℕ) → classOf s i ≡ classOf s j → classOf s′ i ≡ classOf s′ j
   pub label : (i v : ℕ) → bit (labelOf s i) v ≡ 0 → bit (labelOf s′ i) v ≡ 0
 
-keeps-refl : (s : State) → Keeps s s
+pub keeps-refl : (s : State) → Keeps s s
 keeps-refl s = record { class = λ i j e. e; label = λ i v e. e }
 
-keeps-trans : {s s′ s″ : State} → Keeps s s′ → Keeps s′ s″ → Keeps s s″
+pub keeps-trans : {s s′ s″ : State} → Keeps s s′ → Keeps s′ s″ → Keeps s s″
 keeps-trans p q = record { class = λ i j e. q .class i j (p .class i j e); label = λ i v e. q .label i v (p .label i v e) }
 
 cut-keeps : (s : State) (k m : ℕ) → Keeps s (add s (within k m))
@@ -69,8 +69,8 @@ merge-keeps s c d =
     L : List ℕ
     L = set (s .labels) (min c d) W
 
-    at : (k : ℕ) → getD (rename (min c d) (max c d) (s .classes)) k 0 ≡ cond (eqb (getD (s .classes) k 0) (max c d)) (min c d) (getD (s .classes) k 0)
-    at k = rename-at (min c d) (max c d) (s .classes) k (omega arith)
+    at : (k : ℕ) → classOf (merge s c d) k ≡ cond (eqb (classOf s k) (max c d)) (min c d) (classOf s k)
+    at = merge-at s c d
 
     common : (v k : ℕ) → (k ≡ c) ⊎ (k ≡ d) → bit (getD (s .labels) k 0) v ≡ 0 → bit W v ≡ 0
     common v k (inl q) e = let z : bit (getD (s .labels) c 0) v ≡ 0 = rw q at e in omega (arith, bit-and (getD (s .labels) c 0) (getD (s .labels) d 0) v)
@@ -99,7 +99,7 @@ unfoldable pub Says : State → Fact → Type 0
 Says s (same i j) = classOf s i ≡ classOf s j
 Says s (within i m) = (v : ℕ) → bit m v ≡ 0 → bit (labelOf s i) v ≡ 0
 
-says-kept : {s s′ : State} → Keeps s s′ → (f : Fact) → Says s f → Says s′ f
+pub says-kept : {s s′ : State} → Keeps s s′ → (f : Fact) → Says s f → Says s′ f
 unfolding Says
 says-kept k (same i j) e = k .class i j e
 says-kept k (within i m) e = λ v z. k .label i v (e v z)
@@ -113,8 +113,8 @@ merged s i j = at i ∙ meet (ends (classOf s i) (classOf s j)) ∙ sym (at j)
     d : ℕ
     d = classOf s j
 
-    at : (k : ℕ) → getD (rename (min c d) (max c d) (s .classes)) k 0 ≡ cond (eqb (getD (s .classes) k 0) (max c d)) (min c d) (getD (s .classes) k 0)
-    at k = rename-at (min c d) (max c d) (s .classes) k (omega arith)
+    at : (k : ℕ) → classOf (merge s c d) k ≡ cond (eqb (classOf s k) (max c d)) (min c d) (classOf s k)
+    at = merge-at s c d
 
     to-low : (k : ℕ) → (k ≡ min c d) ⊎ (k ≡ max c d) → cond (eqb k (max c d)) (min c d) k ≡ min c d
     to-low k h = cond-ind (λ x. x ≡ min c d) (eqb k (max c d)) (min c d) k (λ q. refl) (λ q. go q h)
@@ -127,7 +127,7 @@ merged s i j = at i ∙ meet (ends (classOf s i) (classOf s j)) ∙ sym (at j)
     meet (inl p) = to-low c (inl (sym (p .0))) ∙ sym (to-low d (inr (sym (p .1))))
     meet (inr p) = to-low c (inr (sym (p .1))) ∙ sym (to-low d (inl (sym (p .0))))
 
-add-says : (s : State) (f : Fact) → Says (add s f) f
+pub add-says : (s : State) (f : Fact) → Says (add s f) f
 unfolding Says
 add-says s (same i j) = go (sameClass s i j) refl
   where
@@ -143,7 +143,7 @@ add-says s (within i m) = λ v z. low v z (set-same (s .labels) (classOf s i) W)
     low v z (inl q) = rw q (omega (arith, bit-and (labelOf s i) m v, z))
     low v z (inr q) = rw q (bit-zero v)
 
-adds-say : (fs : List Fact) (s : State) → All (Says (foldl add s fs)) fs
+pub adds-say : (fs : List Fact) (s : State) → All (Says (foldl add s fs)) fs
 adds-say [] s = none
 adds-say (f ∷ fs) s = more (says-kept (adds-keeps fs (add s f)) f (add-says s f)) (adds-say fs (add s f))
 
@@ -188,15 +188,8 @@ first-small room c = go (leb room c) refl
     go true e = rw (List·getD-eq-default (replicate room everyVariant) 0 {n = c} (omega (arith, length-replicate room everyVariant, leb-true room c e))) (omega arith)
     go false e = rw (getD-replicate room c everyVariant 0 (leb-false room c e)) (omega arith)
 
-initial-small : Small initial
-unfolding initial first
-initial-small = first-small termCount
-
 pub closure-masks : (t : Table) (ls : List Literal) → Small (closureOf t ls)
-unfolding closureOf
-closure-masks t ls =
-    saturate-ind t Small (λ s h. adds-ind Small (λ s′ f h′. add-small s′ h′ f) (fresh t s) s h) (size (begin t ls)) (begin t ls)
-    (adds-ind Small (λ s′ f h′. add-small s′ h′ f) (given t ls) initial initial-small)
+closure-masks = closure-ind Small (first-small termCount) (λ s f h. add-small s h f)
 
 pub closure-small : (t : Table) (ls : List Literal) (i : ℕ) → labelOf (closureOf t ls) i < 2 ^ variantLimit
 unfolding Small

@@ -42,12 +42,12 @@ alone-of s h i v f = go (one-set variantLimit v (labelOf s i) (h (classOf s i)) 
 
 -- ---- inversions
 
-data Either {B : Type 0} (P : Fact → Type 0) (f : B → B → List Fact) (x y : B) : Type 0 where
+pub data Either {B : Type 0} (P : Fact → Type 0) (f : B → B → List Fact) (x y : B) : Type 0 where
   before : All P (f x y) → Either P f x y
   after : All P (f y x) → Either P f x y
   identical : x ≡ y → Either P f x y
 
-pairwise-inv : {B : Type 0} (P : Fact → Type 0) (f : B → B → List Fact) (ys : List B) → All P (pairwise f ys) → (x y : B) → List·Memᴰ x ys → List·Memᴰ y ys → Either P f x y
+pub pairwise-inv : {B : Type 0} (P : Fact → Type 0) (f : B → B → List Fact) (ys : List B) → All P (pairwise f ys) → (x y : B) → List·Memᴰ x ys → List·Memᴰ y ys → Either P f x y
 pairwise-inv P f (z ∷ ys) h x y (List·Memᴰ·head e) (List·Memᴰ·head e′) = identical (e ∙ sym e′)
 pairwise-inv P f (z ∷ ys) h x y (List·Memᴰ·head e) (List·Memᴰ·tail m) = before (subst (λ w. All P (f w y)) (sym e) (concatMap-inv (f z) ys (all-left (concatMap (f z) ys) (pairwise f ys) h) y m))
 pairwise-inv P f (z ∷ ys) h x y (List·Memᴰ·tail m) (List·Memᴰ·head e) = after (subst (λ w. All P (f w x)) (sym e) (concatMap-inv (f z) ys (all-left (concatMap (f z) ys) (pairwise f ys) h) x m))

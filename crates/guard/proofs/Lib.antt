@@ -3,6 +3,7 @@ pub mod ClosureBelow
 pub mod ClosureState
 pub mod LeastClosure
 pub mod AnyOrder
+pub mod Agreement
 pub mod Reading
 pub mod Accepted
 pub mod MessageLaws

@@ -7,15 +7,15 @@ use Prim.Native.Nat.{ℕ, zero, suc, _+_, _-_, _*_, _/_, _%_, _^_, _<_}
 use native.Mathlib.Nat.{one-mul}
 use native.Mathlib.Numerals.{add-one}
 use native.Mathlib.Omega.{arith}
-use lib.Bits.{bitAnd, and-high}
+use lib.Bits.{bitAnd}
 use lib.Count.{ones, ones-step, trailingZeros, under}
 use lib.Dec.{eqb, lit<}
 use lib.ListN.{length, getD, length-map}
-use lib.Pow.{pow-add, pow-pos, shl-exact, shr-lt}
+use lib.Pow.{pow-pos, shl-exact, shr-lt}
 use borrow.Author.Tests.{eq-eqb, ne-eqb}
 use Rattle.laws.specs.Bits.{bit}
 use Rattle.laws.specs.Lists.{consIf, filter, from}
-use Rattle.laws.proofs.Bits.{bit-low, bit-suc}
+use Rattle.laws.proofs.Bits.{and-one, bit-low, bit-suc}
 use Rattle.guard.specs.Limits.{variantLimit}
 use Rattle.labels.specs.Label.{variantsBelow, variantsIn}
 
@@ -24,11 +24,6 @@ use Rattle.labels.specs.Label.{variantsBelow, variantsIn}
 -- a shifted 1
 pub shifted-one : (v : ℕ) → v < 16 → (1 * 2 ^ v) % 2 ^ 16 ≡ 2 ^ v
 shifted-one v h = shl-exact 1 v 16 (lit< tt) (omega arith) ∙ one-mul (2 ^ v)
-
-and-one : (m v : ℕ) → bitAnd m (2 ^ v) ≡ bit m v * 2 ^ v
-and-one m v =
-    let e : 2 ^ (1 + v) - 2 ^ v ≡ 2 ^ v = omega (arith, pow-add 2 1 v) in
-    ap (bitAnd m) (sym e) ∙ and-high m 1 v
 
 bit-test : (m v : ℕ) → eqb (bitAnd m (2 ^ v)) 0 ≡ eqb (bit m v) 0
 bit-test m v = ap (λ (x : ℕ). eqb x 0) (and-one m v) ∙ go (bit m v) (omega arith)

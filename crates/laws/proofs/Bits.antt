@@ -2,12 +2,12 @@
 use mathlib.Core.Path.{_≡_, refl, ap, sym, _∙_}
 use mathlib.Core.Bool.{Bool, true, false, not, _||_, false≢true}
 use mathlib.Core.Logic.{_⊎_, inl, inr}
-use Prim.Native.Nat.{ℕ, zero, suc, _+_, _-_, _/_, _%_, _^_, _≤_, _<_, min}
+use Prim.Native.Nat.{ℕ, zero, suc, _+_, _-_, _*_, _/_, _%_, _^_, _≤_, _<_, min}
 use native.Mathlib.Omega.{arith}
 use native.Mathlib.Nat.{zero-div, div-eq-of-lt, lt-of-lt-of-le, add-zero, zero-add, div-div-eq-div-mul, pow-suc, mul-comm, div-one}
-use lib.Bits.{bitAnd, and-shr, and-step}
+use lib.Bits.{bitAnd, and-high, and-shr, and-step}
 use lib.Count.{ones, ones-step}
-use lib.Pow.{ones-lt, pow-mono}
+use lib.Pow.{ones-lt, pow-add, pow-mono}
 use lib.Dec.{leb, eqb}
 use borrow.Author.Tests.{eqb-true, eqb-false, leb-true, leb-false, ne-eqb, eq-eqb}
 use Rattle.laws.specs.Bits.{bit}
@@ -28,6 +28,12 @@ and-low a b = omega (arith, and-step a b)
 
 pub bit-and : (a b v : ℕ) → bit (bitAnd a b) v ≡ min (bit a v) (bit b v)
 bit-and a b v = rw (and-shr a b v) (and-low (a / 2 ^ v) (b / 2 ^ v))
+
+-- one bit alone
+pub and-one : (m v : ℕ) → bitAnd m (2 ^ v) ≡ bit m v * 2 ^ v
+and-one m v =
+    let e : 2 ^ (1 + v) - 2 ^ v ≡ 2 ^ v = omega (arith, pow-add 2 1 v) in
+    ap (bitAnd m) (sym e) ∙ and-high m 1 v
 
 -- a common bit that is missing is missing on one side
 pub and-missing : (a b v : ℕ) → bit (bitAnd a b) v ≡ 0 → (bit a v ≡ 0) ⊎ (bit b v ≡ 0)

@@ -1,7 +1,7 @@
 -- Lists: `All`, membership, tests, ranges. Assumes nothing.
-use mathlib.Core.Path.{_≡_, refl, ap, sym, _∙_, subst}
+use mathlib.Core.Path.{_≡_, refl, ap, ap₂, sym, _∙_, subst}
 use mathlib.Core.Bool.{Bool, true, false, not, _&&_, _||_, cond, false≢true}
-use mathlib.Core.List.{List, [], _∷_, _++_, map, nil≢cons, head-eq-of-cons-eq, List·Memᴰ, List·Memᴰ·head, List·Memᴰ·tail, List·Memᴰ·append-cases, Memᴰ·append-left, Memᴰ·append-right}
+use mathlib.Core.List.{map-id, List, [], _∷_, _++_, map, nil≢cons, head-eq-of-cons-eq, List·Memᴰ, List·Memᴰ·head, List·Memᴰ·tail, List·Memᴰ·append-cases, Memᴰ·append-left, Memᴰ·append-right}
 use mathlib.Core.Logic.{_⊎_, inl, inr}
 use mathlib.Core.Option.{Option, none, some}
 use Prim.Native.Nat.{ℕ, zero, suc, _+_, _≤_, _<_}
@@ -243,12 +243,29 @@ map-from-snoc f (suc n) a =
     let e : suc a + n ≡ a + suc n = omega arith in
     ap (λ l. f a ∷ l) (map-from-snoc f n (suc a) ∙ ap (λ (k : ℕ). map f (from n (suc a)) ++ (f k ∷ [])) e)
 
+pub from-snoc : (n a : ℕ) → from (suc n) a ≡ from n a ++ ((a + n) ∷ [])
+from-snoc n a = sym (map-id (from (suc n) a)) ∙ map-from-snoc (λ k. k) n a ∙ ap (λ (l : List ℕ). l ++ ((a + n) ∷ [])) (map-id (from n a))
+
 pub map-cong : {A B : Type 0} (f g : A → B) (xs : List A) → ((x : A) → List·Memᴰ x xs → f x ≡ g x) → map f xs ≡ map g xs
 map-cong f g [] h = refl
 map-cong f g (x ∷ xs) h =
     let a : f x ≡ g x = h x (List·Memᴰ·head refl) in
     let b : map f xs ≡ map g xs = map-cong f g xs (λ y m. h y (List·Memᴰ·tail m)) in
     cc
+
+pub concatMap-cong : {A B : Type 0} (f g : A → List B) (xs : List A) → ((x : A) → List·Memᴰ x xs → f x ≡ g x) → concatMap f xs ≡ concatMap g xs
+concatMap-cong f g [] h = refl
+concatMap-cong f g (x ∷ xs) h = ap₂ _++_ (h x (List·Memᴰ·head refl)) (concatMap-cong f g xs (λ y m. h y (List·Memᴰ·tail m)))
+
+-- tests that agree at the elements of a list
+module _ {A : Type 0} (p q : A → Bool) where
+  pub any-cong : (xs : List A) → ((x : A) → List·Memᴰ x xs → p x ≡ q x) → any p xs ≡ any q xs
+  any-cong [] h = refl
+  any-cong (x ∷ xs) h = ap₂ _||_ (h x (List·Memᴰ·head refl)) (any-cong xs (λ y m. h y (List·Memᴰ·tail m)))
+
+  pub find-cong : (xs : List A) → ((x : A) → List·Memᴰ x xs → p x ≡ q x) → find p xs ≡ find q xs
+  find-cong [] h = refl
+  find-cong (x ∷ xs) h = ap₂ (λ (b : Bool) (o : Option A). cond b (some x) o) (h x (List·Memᴰ·head refl)) (find-cong xs (λ y m. h y (List·Memᴰ·tail m)))
 
 pub map-length : {A B : Type 0} (f : A → B) (xs : List A) → length (map f xs) ≡ length xs
 map-length f [] = refl

@@ -78,11 +78,11 @@ module _ (s : State) (bs : List Build) (small : (b : Build) → List·Memᴰ b b
 
   -- ---- ranks
 
-  abbrev from-class : ℕ → List ℕ
+  abbrev pub from-class : ℕ → List ℕ
   from-class c = reached termCount s bs (c ∷ [])
 
   -- the rank of a class: the builds whose classes are reached from it
-  abbrev rankOf : ℕ → ℕ
+  abbrev pub rankOf : ℕ → ℕ
   rankOf c = length (filter (λ b. member (classOf s (b .term)) (from-class c)) bs)
 
   is-part : (b : Build) → List·Memᴰ b bs → (p : ℕ) → List·Memᴰ p (b .parts) → List·Memᴰ (classOf s p) (partsOf s bs (classOf s (b .term)))
@@ -101,7 +101,7 @@ module _ (s : State) (bs : List Build) (small : (b : Build) → List·Memᴰ b b
       first : (x : ℕ) → List·Memᴰ x (c ∷ []) → List·Memᴰ x xs
       first x (List·Memᴰ·head q) = subst (λ (z : ℕ). List·Memᴰ z xs) (sym q) m
 
-  rank-part : (b : Build) → List·Memᴰ b bs → member (classOf s (b .term)) (reached termCount s bs (union (partsOf s bs (classOf s (b .term))) [])) ≡ false
+  pub rank-part : (b : Build) → List·Memᴰ b bs → member (classOf s (b .term)) (reached termCount s bs (union (partsOf s bs (classOf s (b .term))) [])) ≡ false
       → (p : ℕ) → List·Memᴰ p (b .parts) → rankOf (classOf s p) < rankOf (classOf s (b .term))
   rank-part b m e p n =
       filter-lt (λ a. member (classOf s (a .term)) (from-class d)) (λ a. member (classOf s (a .term)) (from-class c)) bs

@@ -2,16 +2,20 @@
 use mathlib.Core.Path.{_≡_, refl, ap, sym, subst, _∙_}
 use mathlib.Core.Bool.{Bool, true, false, not, _||_, false≢true}
 use mathlib.Core.List.{List, [], _∷_, _++_, List·Memᴰ, List·Memᴰ·head, Memᴰ·append-left, Memᴰ·append-right, append-assoc, append-nil}
-use Prim.Native.Nat.{ℕ, _≤_, _<_}
+use mathlib.Core.Logic.{_⊎_, inl, inr}
+use Prim.Native.Nat.{ℕ, _+_, _≤_, _<_}
+use native.Mathlib.Nat.{zero-add}
+use native.Mathlib.Numerals.{add-one}
 use native.Mathlib.Omega.{arith}
 use Rattle.laws.specs.All.{All, All.more, All.none}
-use Rattle.laws.specs.Lists.{concatMap}
-use Rattle.laws.proofs.Lists.{all-append}
-use Rattle.guard.specs.Closure.{Fact, Fact.same, State, add, classOf, consequences, holds, mergeUnless, sameClass, size}
+use Rattle.laws.specs.Lists.{concatMap, from, when}
+use Rattle.laws.proofs.Lists.{all-append, concatMap-cong, from-snoc}
+use Rattle.guard.specs.Closure.{Fact, Fact.same, State, add, classOf, holds, mergeUnless, sameClass, size}
 use Rattle.guard.specs.Guard.{Literal}
 use Rattle.guard.specs.Terms.{Table}
-use Rattle.guard.proofs.AnyOrder.{Reached, Reached.by-rules}
+use Rattle.guard.proofs.AnyOrder.{Follows, Reached, Reached.by-rules}
 use Rattle.guard.proofs.ClosureEnds.{add-le, add-lt}
+use Rattle.guard.proofs.ClosureState.{Keeps, add-keeps, keeps-refl, keeps-trans}
 use Rattle.passes.specs.Pass.{Due, Pass, Steps, Steps.done, Steps.then}
 
 -- ---- steps
@@ -25,11 +29,16 @@ module _ {s : State} where
   steps-more g done = done
   steps-more g (then {s′ = x} p f m) = then (steps-more g p) f (g x f m)
 
-  -- what rules give is due, so a state that is reached leads to one that is reached
-  pub steps-reach : {due : Due} (t : Table) (ls : List Literal) (room : ℕ) → ((x : State) (f : Fact) → List·Memᴰ f (due x) → List·Memᴰ f (consequences t x))
-      → {s′ : State} → Steps due s s′ → Reached t ls room s → Reached t ls room s′
+  -- what is due follows, so a state that is reached leads to one that is reached
+  pub steps-reach : {due : Due} (t : Table) (ls : List Literal) (room : ℕ)
+      → ((x : State) → Reached t ls room x → (f : Fact) → List·Memᴰ f (due x) → Follows t x f) → {s′ : State} → Steps due s s′ → Reached t ls room s → Reached t ls room s′
   steps-reach t ls room g done r = r
-  steps-reach t ls room g (then {s′ = x} p f m) r = by-rules (steps-reach t ls room g p r) f (g x f m)
+  steps-reach t ls room g (then {s′ = x} p f m) r = let there = steps-reach t ls room g p r in by-rules there f (g x there f m)
+
+  -- nothing that was said is taken back
+  pub steps-keep : {due : Due} {s′ : State} → Steps due s s′ → Keeps s s′
+  steps-keep done = keeps-refl s
+  steps-keep (then {s′ = x} p f m) = keeps-trans (steps-keep p) (add-keeps x f)
 
   pub steps-le : {due : Due} {s′ : State} → Steps due s s′ → size s′ ≤ size s
   steps-le done = omega arith
@@ -68,6 +77,16 @@ made-same due s i j d =
         (ap (λ (c : Bool). mergeUnless c s (classOf s i) (classOf s j)) e, subst (All (λ g. holds s g ≡ true)) (sym d) (more e none))
     still false e n = absurd (false≢true (sym n))
 
+-- two terms are due to be equal where a test says so
+module _ (test : State → Bool) (i j : ℕ) (s : State) where
+  pub not-due : test s ≡ false → Pass (λ x. when (test x) (same i j ∷ [])) s s false
+  not-due e = skipped (λ x. when (test x) (same i j ∷ [])) s (ap (λ (b : Bool). when b (same i j ∷ [])) e)
+
+  pub united : test s ≡ true → (s′ : State) (r : Bool) → s′ ≡ add s (same i j) → r ≡ not (holds s (same i j)) → Pass (λ x. when (test x) (same i j ∷ [])) s s′ r
+  united e s′ r es er =
+      let p : Pass (λ x. when (test x) (same i j ∷ [])) s (add s (same i j)) (not (holds s (same i j))) = made-same (λ x. when (test x) (same i j ∷ [])) s i j (ap (λ (b : Bool). when b (same i j ∷ [])) e) in
+      rw (es, er) p
+
 -- one pass and then another
 module _ {due also : Due} {s s′ s″ : State} (a b : Bool) (p : Pass due s s′ a) (q : Pass also s′ s″ b) where
   both-fall : (c d : Bool) → a ≡ c → b ≡ d → (c || d) ≡ true → size s″ < size s
@@ -91,6 +110,13 @@ module _ {due also : Due} {s s′ s″ : State} (a b : Bool) (p : Pass due s s�
         quiet = both-quiet a b refl refl;
       }
 
+  -- by the first alone where it changed something, by the second where it did not
+  pub first-changed : a ≡ true → Pass (λ x. due x ++ also x) s s″ a
+  first-changed e = subst (Pass (λ x. due x ++ also x) s s″) (ap (λ (c : Bool). c || b) e ∙ sym e) both-passes
+
+  pub second-tells : a ≡ false → Pass (λ x. due x ++ also x) s s″ b
+  second-tells e = subst (Pass (λ x. due x ++ also x) s s″) (ap (λ (c : Bool). c || b) e) both-passes
+
 -- ---- over the entries of a list
 
 module _ {E : Type 0} (due : E → Due) where
@@ -102,8 +128,41 @@ module _ {E : Type 0} (due : E → Due) where
   due-last [] e x = sym (append-nil (due e x))
   due-last (d ∷ es) e x = append-assoc (due d x) (dueFor es x) (due e x) ∙ ap (λ (fs : List Fact). due d x ++ fs) (due-last es e x)
 
-  pub no-entries : (s : State) → Pass (dueFor []) s s false
+  no-entries : (s : State) → Pass (dueFor []) s s false
   no-entries s = skipped (dueFor []) s refl
 
-  pub next-entry : (es : List E) (e : E) {s s′ s″ : State} (a b : Bool) → Pass (dueFor es) s s′ a → Pass (due e) s′ s″ b → Pass (dueFor (es ++ (e ∷ []))) s s″ (a || b)
+  -- nothing is due for any entry
+  pub none-due : (es : List E) (s : State) → ((e : E) → List·Memᴰ e es → due e s ≡ []) → dueFor es s ≡ []
+  none-due es s h = concatMap-cong (λ e. due e s) (λ e. []) es h ∙ empty es
+    where
+      empty : (ds : List E) → _≡_ {A = List Fact} (concatMap (λ (e : E). []) ds) []
+      empty [] = refl
+      empty (d ∷ ds) = empty ds
+
+  next-entry : (es : List E) (e : E) {s s′ s″ : State} (a b : Bool) → Pass (dueFor es) s s′ a → Pass (due e) s′ s″ b → Pass (dueFor (es ++ (e ∷ []))) s s″ (a || b)
   next-entry es e a b p q = reworded (due-last es e) (both-passes a b p q)
+
+-- ---- in a loop over numbers that remembers whether anything changed
+
+-- what is due for the first n numbers
+abbrev pub upTo : (ℕ → Due) → ℕ → Due
+upTo due n x = dueFor due (from n 0) x
+
+module _ (due : ℕ → Due) where
+  pub none-yet : (s : State) → Pass (upTo due 0) s s false
+  none-yet = no-entries due
+
+  remembered : (a b c : Bool) → ((b ≡ true) × (c ≡ true)) ⊎ ((b ≡ false) × (c ≡ a)) → (a || b) ≡ c
+  remembered true b c (inl (e, h)) = sym h
+  remembered false b c (inl (e, h)) = e ∙ sym h
+  remembered true b c (inr (e, h)) = sym h
+  remembered false b c (inr (e, h)) = e ∙ sym h
+
+  pub one-more : (n : ℕ) {s s′ s″ : State} (a b c : Bool) → Pass (upTo due n) s s′ a → Pass (due n) s′ s″ b
+      → ((b ≡ true) × (c ≡ true)) ⊎ ((b ≡ false) × (c ≡ a)) → Pass (upTo due (n + 1)) s s″ c
+  one-more n {s = s} {s″ = s″} a b c p q w =
+      let e : from n 0 ++ (n ∷ []) ≡ from (n + 1) 0 = sym (ap (λ (k : ℕ). from k 0) (add-one n) ∙ from-snoc n 0 ∙ ap (λ (k : ℕ). from n 0 ++ (k ∷ [])) (zero-add n)) in
+      subst (Pass (upTo due (n + 1)) s s″) (remembered a b c w) (reworded (λ x. ap (λ (es : List ℕ). dueFor due es x) e) (next-entry due (from n 0) n a b p q))
+
+  pub all-done : (n end : ℕ) {s s′ : State} {b : Bool} → n ≤ end → end ≤ n → Pass (upTo due n) s s′ b → Pass (upTo due end) s s′ b
+  all-done n end {s = s} {s′ = s′} {b = b} l h p = let e : n ≡ end = omega arith in subst (λ (k : ℕ). Pass (upTo due k) s s′ b) e p

@@ -2,7 +2,7 @@
 use mathlib.Core.Path.{_≡_}
 use mathlib.Core.Bool.{Bool, true, false}
 use mathlib.Core.List.{List, List·Memᴰ}
-use Prim.Native.Nat.{ℕ, _<_}
+use Prim.Native.Nat.{_<_}
 use Rattle.laws.specs.All.{All}
 use Rattle.guard.specs.Closure.{Fact, State, add, holds, size}
 
@@ -20,3 +20,8 @@ pub record Pass (due : Due) (s s′ : State) (changed : Bool) : Type 0 where
   pub steps : Steps due s s′
   pub falls : changed ≡ true → size s′ < size s
   pub quiet : changed ≡ false → (s′ ≡ s) × All (λ f. holds s f ≡ true) (due s)
+
+-- From `s` to `s′`: only what is due is added, and all that is due holds then.
+pub record Saturated (due : Due) (s s′ : State) : Type 0 where
+  pub steps : Steps due s s′
+  pub quiet : All (λ f. holds s′ f ≡ true) (due s′)
