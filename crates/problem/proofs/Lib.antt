@@ -1,0 +1,7 @@
+pub mod Blocks
+pub mod SlotLaws
+pub mod PlaceLaws
+pub mod ShapeColumn
+pub mod OtherColumns
+pub mod ProblemLaws
+pub mod AcceptedProblem
