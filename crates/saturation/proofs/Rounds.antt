@@ -1,0 +1,56 @@
+-- The families one after the other, until one changes something; and such rounds until none does. Assumes nothing.
+use mathlib.Core.Path.{_≡_, refl, sym, subst}
+use mathlib.Core.Bool.{Bool, true, false, false≢true}
+use mathlib.Core.List.{List, _++_, Memᴰ·append-left}
+use Prim.Native.Nat.{ℕ}
+use Rattle.guard.specs.Closure.{State}
+use Rattle.laws.specs.All.{All}
+use Rattle.guard.specs.Closure.{holds}
+use Rattle.passes.specs.Pass.{Due, Pass, Saturated, Steps}
+use Rattle.passes.proofs.PassLaws.{second-tells, steps-more, steps-on}
+use Rattle.saturation.specs.Due.{allDue, defaultsDue, readsDue, shapesDue, singlesDue}
+
+-- a pass that changed something will do, whatever else is due
+changed-first : {due : Due} (also : Due) {s s′ : State} {r : Bool} → r ≡ true → Pass due s s′ r → Pass (λ x. due x ++ also x) s s′ true
+changed-first also e p =
+    record { steps = steps-more (λ x f m. Memᴰ·append-left (also x) m) (p .steps); falls = λ t. p .falls e; quiet = λ t. absurd (false≢true (sym t)) }
+
+module _ (shapes reads sorts fieldless : List ℕ) where
+  abbrev two : Due
+  two x = defaultsDue reads x ++ singlesDue sorts fieldless x
+
+  abbrev three : Due
+  three x = two x ++ shapesDue shapes x
+
+  pub by-defaults : {s s₁ : State} (a : Bool) → Pass (defaultsDue reads) s s₁ a → a ≡ true → Pass (allDue shapes reads sorts fieldless) s s₁ true
+  unfolding allDue
+  by-defaults a p e = changed-first (readsDue reads) refl (changed-first (shapesDue shapes) refl (changed-first (singlesDue sorts fieldless) e p))
+
+  module _ {s s₁ s₂ : State} (a b : Bool) (p : Pass (defaultsDue reads) s s₁ a) (none : a ≡ false) (q : Pass (singlesDue sorts fieldless) s₁ s₂ b) where
+    both : Pass two s s₂ b
+    both = second-tells a b p q none
+
+    pub by-singles : b ≡ true → Pass (allDue shapes reads sorts fieldless) s s₂ true
+    unfolding allDue
+    by-singles e = changed-first (readsDue reads) refl (changed-first (shapesDue shapes) e both)
+
+    module _ {s₃ : State} (c : Bool) (none′ : b ≡ false) (r : Pass (shapesDue shapes) s₂ s₃ c) where
+      all-three : Pass three s s₃ c
+      all-three = second-tells b c both r none′
+
+      pub by-shapes : c ≡ true → Pass (allDue shapes reads sorts fieldless) s s₃ true
+      unfolding allDue
+      by-shapes e = changed-first (readsDue reads) e all-three
+
+      pub by-reads : {s₄ : State} (d : Bool) → c ≡ false → Pass (readsDue reads) s₃ s₄ d → Pass (allDue shapes reads sorts fieldless) s s₄ d
+      unfolding allDue
+      by-reads d e t = second-tells c d all-three t e
+
+-- ---- rounds
+
+module _ {due : Due} {s : State} where
+  -- one more pass that changed something, or the last, which did not
+  pub last-round : {s′ s″ : State} (r : Bool) → r ≡ false → Steps due s s′ → Pass due s′ s″ r → Saturated due s s″
+  last-round r e p q =
+      let (same-state, held) = q .quiet e in
+      record { steps = steps-on p (q .steps); quiet = subst (λ (z : State). All (λ f. holds z f ≡ true) (due z)) (sym same-state) held }
