@@ -1,0 +1,5 @@
+pub mod Adding
+pub mod Cleared
+pub mod GivenTests
+pub mod ConstantSlots
+pub mod GivenLaws
