@@ -1,0 +1,4 @@
+pub mod Lowest
+pub mod Reasons
+pub mod Ranks
+pub mod Choice
