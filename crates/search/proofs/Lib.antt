@@ -1,0 +1,8 @@
+pub mod Measure
+pub mod ClosedState
+pub mod OutcomeLaws
+pub mod Choices
+pub mod VisitLaws
+pub mod Decisions
+pub mod RootLaws
+pub mod Budgets

@@ -1,0 +1,143 @@
+-- What a visit of a node gives, case by case: no node left, a closed node, an open one, and a split with its children's
+-- outcomes. Assumes nothing.
+use mathlib.Core.Path.{_≡_, refl, ap, sym, _∙_, subst, ap₂}
+use mathlib.Core.Bool.{Bool, true, false, false≢true}
+use mathlib.Core.List.{List, _∷_}
+use mathlib.Core.Option.{Option, none, some}
+use Prim.Native.Nat.{ℕ, _-_, _^_, _<_}
+use native.Mathlib.Omega.{arith}
+use lib.IntN.{ℤ}
+use Rattle.guard.specs.Closure.{Fact.within, State, add, closureOf, everyVariant}
+use Rattle.guard.specs.Guard.{Guard, Literal, Literal.is, Literal.isnt}
+use Rattle.guard.specs.Node.{Split, isClosed, splitOf}
+use Rattle.guard.specs.Search.{Visits, children, node, search}
+use Rattle.guard.specs.Terms.{tableOf}
+use Rattle.guard.proofs.ClosureBelow.{LiteralsInRange}
+use Rattle.guard.proofs.SearchLaws.{search-pos, search-step}
+use Rattle.guard.proofs.TableLaws.{table-in-range}
+use Rattle.classes.specs.Held.{Held}
+use Rattle.problem.specs.Problem.{fieldlessOf, readsOf, shapesOf, sortsOf}
+use Rattle.passes.specs.Pass.{Saturated}
+use Rattle.saturation.specs.Due.{allDue}
+use Rattle.nodes.specs.declared.Choice.{Choice}
+use Rattle.nodes.specs.Choice.{choiceOf, splitBy}
+use Rattle.nodes.specs.Reasons.{closedBy}
+use Rattle.search.specs.declared.Outcome.{Outcome}
+use Rattle.search.specs.Outcome.{isClosedOutcome, leftOf, outcome}
+use Rattle.search.specs.Nodes.{Accepted, ArraysOf, Begun, OpenLeaf, Searches}
+use Rattle.search.proofs.ClosedState.{agreed, closes, is-begun, isnt-begun, literals-in, splits}
+use Rattle.search.proofs.OutcomeLaws.{closed-left, first-tells, none-left, open-left, second-goes-on}
+
+-- ---- a choice as code returns it
+
+pub no-choice : (c : Choice) (o : Option Split) → c ≡ choiceOf o → c .found ≡ false → o ≡ none
+no-choice c none e f = refl
+no-choice c (some d) e f = absurd (false≢true (sym f ∙ ap (λ (x : Choice). x .found) e))
+
+pub a-choice : (c : Choice) (o : Option Split) → c ≡ choiceOf o → c .found ≡ true → (d : Split) × (o ≡ some d) × (c .term ≡ d .term) × (c .variant ≡ d .variant)
+a-choice c none e f = absurd (false≢true (sym (ap (λ (x : Choice). x .found) e) ∙ f))
+a-choice c (some d) e f = (d, refl, ap (λ (x : Choice). x .term) e, ap (λ (x : Choice). x .variant) e)
+
+-- a node's search, by what it is
+module _ (g : Guard) (ok : Accepted g) (ls : List Literal) (range : LiteralsInRange ls) where
+  step : search (tableOf g) ls ≡ node (isClosed (tableOf g) ls (closureOf (tableOf g) ls)) (splitOf (tableOf g) (closureOf (tableOf g) ls)) (λ d. search (tableOf g) (d ∷ ls))
+  step = search-step (tableOf g) (table-in-range (ok .limits) (ok .supported) g (ok .wellFormed)) ls range
+
+  step-by : (b : Bool) (o : Option Split) → isClosed (tableOf g) ls (closureOf (tableOf g) ls) ≡ b → splitOf (tableOf g) (closureOf (tableOf g) ls) ≡ o
+      → search (tableOf g) ls ≡ node b o (λ d. search (tableOf g) (d ∷ ls))
+  step-by b o eb eo = step ∙ ap₂ (λ (c : Bool) (p : Option Split). node c p (λ d. search (tableOf g) (d ∷ ls))) eb eo
+
+-- ---- visits
+
+module _ (shapes reads sorts full fieldless constants : List ℕ) (values : List ℤ) (kinds terms others : List ℕ) (many : ℕ) where
+  abbrev Gives : ℕ → State → Outcome → State → Type 0
+  Gives = Searches shapes reads sorts full fieldless constants values kinds terms others many
+
+  pub nothing-left : (s s′ : State) (left : ℕ) → left ≡ 0 → Gives left s Outcome.Spent s′
+  unfolding Searches
+  nothing-left s s′ left e g ls ok arrays begun =
+      (sym (none-left (search (tableOf g) ls) left (omega (arith, search-pos (tableOf g) ls, e))), λ n q. absurd (no-open n q))
+    where
+      no-open : (n : ℕ) → Outcome.Spent ≡ Outcome.Open n → ⊥
+      no-open n q = let z : _≡_ {A = ℕ} 0 1 = cc in absurd (omega arith)
+
+  module _ (s s₁ : State) (left : ℕ) (some-left : 0 < left) (sat : Saturated (allDue shapes reads sorts fieldless) s s₁) (held : Held (s₁ .classes)) where
+    abbrev test : Bool
+    test = closedBy shapes sorts full constants values kinds terms others many s₁
+
+    abbrev choice : Option Split
+    choice = splitBy reads sorts fieldless s₁
+
+    module _ (g : Guard) (ls : List Literal) (ok : Accepted g) (arrays : ArraysOf g shapes reads sorts full fieldless constants values kinds terms others many) (begun : Begun g ls s) where
+      range : LiteralsInRange ls
+      range = literals-in g ok (begun .node)
+
+      here : Saturated (allDue (shapesOf g) (readsOf g) (sortsOf g) (fieldlessOf g)) s s₁
+      here = rw (sym (arrays .isShapes), sym (arrays .isReads), sym (arrays .isSorts), sym (arrays .isFieldless)) sat
+
+      is-test : (b : Bool) → test ≡ b → isClosed (tableOf g) ls (closureOf (tableOf g) ls) ≡ b
+      is-test b e = sym (closes g ok ls s begun s₁ here held) ∙ rw (sym (arrays .isShapes), sym (arrays .isSorts), sym (arrays .isFull), sym (arrays .isConstants), sym (arrays .isValues), sym (arrays .isKinds), sym (arrays .isTerms), sym (arrays .isOthers), sym (arrays .isMany)) e
+
+      is-choice : (o : Option Split) → choice ≡ o → splitOf (tableOf g) (closureOf (tableOf g) ls) ≡ o
+      is-choice o e = sym (splits g ok ls s begun s₁ here) ∙ rw (sym (arrays .isReads), sym (arrays .isSorts), sym (arrays .isFieldless)) e
+
+    pub closed-node : test ≡ true → Gives left s (Outcome.Closed (left - 1)) s₁
+    unfolding Searches
+    closed-node e g ls ok arrays begun =
+        (sym (ap (λ (w : Visits). outcome w left) (step-by g ok ls (range g ls ok arrays begun) true _ (is-test g ls ok arrays begun true e) refl) ∙ closed-left 1 left some-left), λ n q. absurd (no-open n q))
+      where
+        no-open : (n : ℕ) → Outcome.Closed (left - 1) ≡ Outcome.Open n → ⊥
+        no-open n q = let z : _≡_ {A = ℕ} 0 1 = cc in absurd (omega arith)
+
+    module _ (live : test ≡ false) where
+      pub open-node : choice ≡ none → Gives left s (Outcome.Open (left - 1)) s₁
+      unfolding Searches
+      open-node e g ls ok arrays begun =
+          let closed? = is-test g ls ok arrays begun false live in
+          let split? = is-choice g ls ok arrays begun none e in (
+            sym (ap (λ (w : Visits). outcome w left) (step-by g ok ls (range g ls ok arrays begun) false none closed? split?) ∙ open-left 1 left some-left),
+            λ n q. record { literals = ls; node = begun .node; notClosed = closed?; noSplit = split?; agrees = agreed g ok ls s begun s₁ (here g ls ok arrays begun) },
+          )
+
+      module _ (d : Split) (split? : choice ≡ some d) (r : Outcome) (child s₂ : State) (first : Gives (left - 1) child r s₂) (is-child : child ≡ add s₁ (within (d .term) (2 ^ (d .variant)))) where
+        module _ (g : Guard) (ls : List Literal) (ok : Accepted g) (arrays : ArraysOf g shapes reads sorts full fieldless constants values kinds terms others many) (begun : Begun g ls s) where
+          abbrev isVisits : Visits
+          isVisits = search (tableOf g) (is (d .term) (d .variant) ∷ ls)
+
+          abbrev isntVisits : Visits
+          isntVisits = search (tableOf g) (isnt (d .term) (d .variant) ∷ ls)
+
+          chosen : splitOf (tableOf g) (closureOf (tableOf g) ls) ≡ some d
+          chosen = is-choice g ls ok arrays begun (some d) split?
+
+          by-first : (r ≡ outcome isVisits (left - 1)) × ((n : ℕ) → r ≡ Outcome.Open n → OpenLeaf g s₂)
+          unfolding Searches
+          by-first =
+              first g (is (d .term) (d .variant) ∷ ls) ok arrays (subst (Begun g (is (d .term) (d .variant) ∷ ls)) (sym is-child) (is-begun g ok ls s begun s₁ (here g ls ok arrays begun) d chosen))
+
+          whole : search (tableOf g) ls ≡ children isVisits (λ u. isntVisits)
+          whole = step-by g ok ls (range g ls ok arrays begun) false (some d) (is-test g ls ok arrays begun false live) chosen
+
+        -- the first child is open, or the budget is spent
+        pub first-ends : isClosedOutcome r ≡ false → Gives left s r s₂
+        unfolding Searches
+        first-ends e g ls ok arrays begun =
+            let (q, leaf) = by-first g ls ok arrays begun in (
+              q ∙ sym (ap (λ (w : Visits). outcome w left) (whole g ls ok arrays begun)
+                  ∙ first-tells (isVisits g ls ok arrays begun) (isntVisits g ls ok arrays begun) left some-left (sym (ap isClosedOutcome q) ∙ e)),
+              leaf,
+            )
+
+        -- the first child is closed, and the second decides
+        pub second-ends : isClosedOutcome r ≡ true → (r′ : Outcome) (child′ s₃ : State) → Gives (leftOf r) child′ r′ s₃
+            → child′ ≡ add s₁ (within (d .term) (everyVariant - 2 ^ (d .variant))) → Gives left s r′ s₃
+        unfolding Searches
+        second-ends e r′ child′ s₃ second is-child′ g ls ok arrays begun =
+            let (q, leaf) = by-first g ls ok arrays begun in
+            let (q′, leaf′) = second g (isnt (d .term) (d .variant) ∷ ls) ok arrays
+            (subst (Begun g (isnt (d .term) (d .variant) ∷ ls)) (sym is-child′) (isnt-begun g ok ls s begun s₁ (here g ls ok arrays begun) d (chosen g ls ok arrays begun))) in (
+              q′ ∙ ap (λ (o : Outcome). outcome (isntVisits g ls ok arrays begun) (leftOf o)) q
+                  ∙ sym (ap (λ (w : Visits). outcome w left) (whole g ls ok arrays begun)
+                  ∙ second-goes-on (isVisits g ls ok arrays begun) (isntVisits g ls ok arrays begun) left some-left (sym (ap isClosedOutcome q) ∙ e)),
+              leaf′,
+            )
