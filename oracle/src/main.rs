@@ -20,6 +20,7 @@ usage: oracle answer FILE [--budget N]        the answer to a guard file
        oracle tables [--check] VECTORS DIR    writes or checks DIR/stdin, the packed
                                               vectors, and DIR/stdout, the desk's tables
                                               of each in a line
+       oracle walks [--check] VECTORS DIR     the same, with the answer to each in a line
 FILE and OUTPUT may be - for standard input. N is 1000000 if not given.";
 
 /// Why the program fails.
@@ -61,8 +62,10 @@ fn run(words: &[&str]) -> Result<(), Failure> {
         ["vectors", "--check", dir] => check_vectors(dir),
         ["vectors", dir] => write_vectors(dir),
         ["pack", vectors, out] => pack_command(vectors, out),
-        ["tables", "--check", vectors, dir] => check_tables(vectors, dir),
-        ["tables", vectors, dir] => write_tables(vectors, dir),
+        ["tables", "--check", vectors, dir] => check_run(vectors, dir, tables::summaries),
+        ["tables", vectors, dir] => write_run(vectors, dir, tables::summaries),
+        ["walks", "--check", vectors, dir] => check_run(vectors, dir, vectors::answers),
+        ["walks", vectors, dir] => write_run(vectors, dir, vectors::answers),
         _ => Err(Failure::Usage(format!(
             "what is asked isn't clear\n{USAGE}"
         ))),
@@ -156,19 +159,19 @@ fn pack_command(path: &str, out: &str) -> Result<(), Failure> {
     store(Path::new(out), &packed)
 }
 
-fn write_tables(path: &str, dir: &str) -> Result<(), Failure> {
+/// The lines that a program of the desk prints about the vectors.
+type Lines = fn(&[Vector]) -> String;
+
+fn write_run(path: &str, dir: &str, lines: Lines) -> Result<(), Failure> {
     let vectors = load_vectors(path)?;
     let packed = vectors::pack(&vectors).map_err(Failure::Wrong)?;
     let dir = Path::new(dir);
     store(&dir.join("stdin"), &packed)?;
-    store(&dir.join("stdout"), tables::summaries(&vectors).as_bytes())?;
-    print(&format!(
-        "the tables of {} vectors written\n",
-        vectors.len()
-    ))
+    store(&dir.join("stdout"), lines(&vectors).as_bytes())?;
+    print(&format!("a run of {} vectors written\n", vectors.len()))
 }
 
-fn check_tables(path: &str, dir: &str) -> Result<(), Failure> {
+fn check_run(path: &str, dir: &str, lines: Lines) -> Result<(), Failure> {
     let vectors = load_vectors(path)?;
     let packed = vectors::pack(&vectors).map_err(Failure::Wrong)?;
     let stdin = Path::new(dir).join("stdin");
@@ -178,8 +181,8 @@ fn check_tables(path: &str, dir: &str) -> Result<(), Failure> {
     }
     let stdout = Path::new(dir).join("stdout");
     let found = load_text(&stdout.to_string_lossy())?;
-    match vectors::first_difference(&found, &tables::summaries(&vectors)) {
-        None => print(&format!("ok, the tables of {} vectors\n", vectors.len())),
+    match vectors::first_difference(&found, &lines(&vectors)) {
+        None => print(&format!("ok, a run of {} vectors\n", vectors.len())),
         Some(difference) => Err(Failure::Wrong(format!(
             "{}: {difference}",
             stdout.display()

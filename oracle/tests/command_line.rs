@@ -75,7 +75,7 @@ fn checks_printed_answers() {
 
 #[test]
 fn wrong_use_is_said() {
-    let cases: [&[&str]; 16] = [
+    let cases: [&[&str]; 18] = [
         &[],
         &["nonsense"],
         &["answer"],
@@ -92,6 +92,8 @@ fn wrong_use_is_said() {
         &["pack", "no such file", "out"],
         &["tables", "no such file", "."],
         &["tables", "--check", "no such file", "."],
+        &["walks", "no such file", "."],
+        &["walks", "--check", "no such file", "."],
     ];
     for words in cases {
         let output = oracle(words, &[0, 0, 0]);
@@ -142,16 +144,25 @@ fn packs_vectors() {
 
 #[test]
 fn tables_are_written_and_checked() {
-    let dir = scratch("tables");
+    written_and_checked("tables", "0 types 0 rows 0 lines, sum 0\nrefused 2\n");
+}
+
+#[test]
+fn walks_are_written_and_checked() {
+    written_and_checked("walks", "SAT 1\nREFUSED 2\n");
+}
+
+fn written_and_checked(command: &str, lines: &str) {
+    let dir = scratch(command);
     let vectors = dir.join("vectors.txt");
     fs::write(&vectors, "x\t1\t000000\tSAT 1\ny\t0\t-\tREFUSED 2\n").expect("written");
     let (vectors, place) = (vectors.display().to_string(), dir.display().to_string());
-    let write = ["tables", &vectors, &place];
-    let check = ["tables", "--check", &vectors, &place];
+    let write = [command, &vectors, &place];
+    let check = [command, "--check", &vectors, &place];
     assert_eq!(oracle(&write, &[]).status.code(), Some(0));
     assert_eq!(oracle(&check, &[]).status.code(), Some(0));
     let stdout = fs::read(dir.join("stdout")).expect("the lines");
-    assert_eq!(stdout, b"0 types 0 rows 0 lines, sum 0\nrefused 2\n");
+    assert_eq!(stdout, lines.as_bytes());
     for name in ["stdin", "stdout"] {
         let right = fs::read(dir.join(name)).expect("written");
         let mut wrong = right.clone();

@@ -95,6 +95,14 @@ fn parse_line(line: &str) -> Option<Vector> {
     })
 }
 
+/// The expected answers, one to a line. `vectors --check` holds them to the solver.
+pub fn answers(vectors: &[Vector]) -> String {
+    vectors
+        .iter()
+        .map(|vector| vector.answer.clone() + "\n")
+        .collect()
+}
+
 /// "For each vector a 2-byte length, the bytes, a 4-byte budget; ended by a
 /// length of 65535"; all low byte first.
 pub fn pack(vectors: &[Vector]) -> Result<Vec<u8>, String> {
