@@ -1,0 +1,5 @@
+pub mod Loops
+pub mod EntryLaws
+pub mod TableLaws
+pub mod FitLaws
+pub mod RangeLaws

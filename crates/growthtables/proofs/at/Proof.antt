@@ -1,0 +1,15 @@
+-- `at` meets its contract. Assumes nothing.
+use mathlib.Core.Path.{sym}
+use native.Mathlib.Omega.{arith}
+use lib.ListN.{List·getD-eq-default}
+use borrow.Author.Needs.{needs}
+use Rattle.growthtables.proofs.at.Statement.{statement}
+use Rattle.growthtables.proofs.at.Tie as tie
+use Rattle.growthtables.proofs.at.Reads as reads
+use Rattle.growthtables.proofs.at.Lts as lts
+
+returns-2 : tie.Need-returns-2
+returns-2 c = sym (List·getD-eq-default (c .before .args .column .now) 0 (omega arith))
+
+pub at-spec : {M : Type 1} → statement M
+at-spec = tie.close (tie.spec (λ c. search needs) (λ c. search needs) returns-2)
