@@ -1,0 +1,40 @@
+//! The root's state before any rule, as crate `given` makes it.
+
+use oracle::guard::Line;
+use oracle::problem::only;
+
+use crate::problem::{Problem, Term, TERMS};
+use crate::state::State;
+
+pub fn given(problem: &Problem) -> State {
+    let mut state = State::new();
+    for term in 0..TERMS as Term {
+        if problem.sorts[term as usize] != 0 {
+            state.restrict(term, problem.full(term));
+        }
+    }
+    for shape in &problem.shapes {
+        if shape.kind != 0 && shape.others == 0 {
+            state.restrict(shape.owner, only(usize::from(shape.kind - 1) % 16));
+        }
+    }
+    for (k, constant) in problem.constants.iter().enumerate() {
+        for before in &problem.constants[..k] {
+            let same = before.sort == constant.sort && before.value == constant.value;
+            if constant.sort != 0 && same {
+                state.unite(before.term, constant.term);
+            }
+        }
+    }
+    for line in &problem.lines {
+        match *line {
+            Line::Equal(a, b) => {
+                state.unite(a as Term, b as Term);
+            }
+            Line::Unequal(..) => {}
+            Line::Is(term, variant) => state.restrict(term as Term, only(variant)),
+            Line::Isnt(term, variant) => state.restrict(term as Term, !only(variant)),
+        }
+    }
+    state
+}

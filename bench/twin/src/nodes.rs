@@ -1,0 +1,93 @@
+//! The reasons to close a node and its split, as in crate `nodes`.
+
+use oracle::guard::Line;
+
+use crate::problem::{Label, Problem, Term, PLACES, TERMS};
+use crate::saturation::is_active;
+use crate::state::State;
+
+/// Whether one of the four reasons closes the node, the dearest to find out last.
+pub fn is_closed(problem: &Problem, state: &State) -> bool {
+    has_empty_label(problem, state)
+        || has_broken_line(problem, state)
+        || has_unlike_constants(problem, state)
+        || has_cycle(problem, state)
+}
+
+fn has_empty_label(problem: &Problem, state: &State) -> bool {
+    (0..TERMS as Term).any(|term| state.label(term) == 0 && problem.full(term) != 0)
+}
+
+fn has_broken_line(problem: &Problem, state: &State) -> bool {
+    let broken =
+        |line: &Line| matches!(*line, Line::Unequal(a, b) if state.equal(a as Term, b as Term));
+    problem.lines.iter().any(broken)
+}
+
+fn has_unlike_constants(problem: &Problem, state: &State) -> bool {
+    problem.constants.iter().enumerate().any(|(k, constant)| {
+        constant.sort != 0
+            && problem.constants[..k].iter().any(|before| {
+                before.sort != 0
+                    && state.equal(before.term, constant.term)
+                    && before.value != constant.value
+            })
+    })
+}
+
+/// Each round raises the classes that aren't above all their parts. Without a cycle there
+/// are fewer rounds than shapes.
+fn has_cycle(problem: &Problem, state: &State) -> bool {
+    let mut ranks = [0; PLACES];
+    (1..32).all(|round| raise_all(problem, state, &mut ranks, round))
+}
+
+/// One round; true if a class was raised.
+fn raise_all(problem: &Problem, state: &State, ranks: &mut [u8; PLACES], round: u8) -> bool {
+    let mut any = false;
+    for shape in &problem.shapes {
+        let owner = state.class(shape.owner) as usize;
+        let above = |&part: &Term| ranks[owner] <= ranks[state.class(part) as usize];
+        if shape.parts().iter().any(above) && is_active(state, shape) {
+            ranks[owner] = round;
+            any = true;
+        }
+    }
+    any
+}
+
+/// A decision: a term, and the label of one variant.
+#[derive(Clone, Copy)]
+pub struct Decision {
+    pub term: Term,
+    pub variant: Label,
+}
+
+/// What the node splits on: the first kind before the second.
+pub fn split(problem: &Problem, state: &State) -> Option<Decision> {
+    first_kind(problem, state).or_else(|| second_kind(problem, state))
+}
+
+/// The lowest field row whose read term's label holds its variant and another one.
+fn first_kind(problem: &Problem, state: &State) -> Option<Decision> {
+    let splits = problem.reads.iter().find(|read| {
+        let label = state.label(read.term);
+        read.key != 0 && label & read.variant != 0 && label != read.variant
+    });
+    splits.map(|read| Decision {
+        term: read.term,
+        variant: read.variant,
+    })
+}
+
+/// The lowest term whose label holds two or more variants, all fieldless; its lowest one.
+fn second_kind(problem: &Problem, state: &State) -> Option<Decision> {
+    let splits = (0..TERMS as Term).find(|&term| {
+        let label = state.label(term);
+        label & problem.fieldless(term) == label && label.count_ones() >= 2
+    });
+    splits.map(|term| Decision {
+        term,
+        variant: 1 << state.label(term).trailing_zeros(),
+    })
+}
