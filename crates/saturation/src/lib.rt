@@ -339,7 +339,7 @@ fn fieldless_of(sorts: &[u8; 96], fieldless: &[u16; 8], x: u8) -> u16
 }
 
 // A term is of one fieldless variant alone.
-fn only_is(
+pub fn only_is(
     classes: &[u8; 96],
     labels: &[u16; 96],
     sorts: &[u8; 96],
