@@ -203,7 +203,7 @@ module _ (ts : Types) (type variantFor : ℕ → ℕ) where
         -- ---- what has to be shown of the classes for plans in closed form
         module _ (In : ℕ → Type 0) (kind : ℕ → Kind) (val : ℕ → Message) where
           pub record Choices : Type 0 where
-            pub few : (c : ℕ) → In c → List·Memᴰ c classes
+            pub few : (c : ℕ) → In c → kind c ≡ free → List·Memᴰ c classes
             pub wide : (c : ℕ) → In c → kind c ≡ free → isNumber ts (type c) ≡ false → 0 < length (fieldsOf ts (type c) (variantFor c))
             -- numbers at ends: no constants, different, not 0
             pub fresh : (u w : ℕ) → In u → kind u ≡ free → circles u ≡ false → In w → ¬ (kind w ≡ const (endFor u))
@@ -235,5 +235,5 @@ module _ (ts : Types) (type variantFor : ℕ → ℕ) where
               close u w v x n k i f iw fw a b r hk =
                   let e : rootFor u ≡ rootFor w = ap (rootBy ts (type u)) (sym (a .variant)) ∙ r ∙ ap (rootBy ts (type w)) (b .variant) in
                   let q : closedSteps u ≡ k + closedSteps w = sym (a .number) ∙ ap (λ (m : ℕ). k + m) (b .number) in
-                  index-once u w (ch .few u i) (ch .few w iw) (a .circling) (b .circling) e
+                  index-once u w (ch .few u i f) (ch .few w iw fw) (a .circling) (b .circling) e
                   (steps-apart accepted u w k (start-less u i f (a .variantType)) (start-less w iw fw (b .variantType)) e q hk)

@@ -25,7 +25,7 @@ use Rattle.guard.proofs.Agreement.{Agrees, builds-agree}
 use Rattle.guard.proofs.ClosureState.{Small}
 use Rattle.guard.proofs.TableLaws.{fieldless-is}
 use Rattle.growth.proofs.Injective.{Kind, Kind.const, Kind.free, Kind.node}
-use Rattle.models.proofs.Classes.{Reason, Reason.nullary, Reason.unfixed, build-kind, const-kind, kind-once, kindOf, reason}
+use Rattle.models.proofs.Classes.{Reason, Reason.nullary, Reason.unfixed, build-kind, const-kind, kind-once, kindOf, reason, type-at}
 use Rattle.models.proofs.Nodes.{NodeOf, OpenNode, TypedNode, alone-test, build-of, built-of, built-term, label-held, test-alone, typed-node}
 use Rattle.models.proofs.TypedTable.{termType}
 use Rattle.tables.specs.Layout.{flat, rowTable}
@@ -78,7 +78,7 @@ module _ (limits : Limits) (sup : Supported limits) (g : Guard) (ok : WellFormed
   build-in : (b : Build) → List·Memᴰ b (buildsAt (tableOf g) S) → BuiltAt (tableOf g) (LacksAt S) b
   build-in = built-of (tableOf g) ls (typed .inRange) (typed .literalsInRange)
 
-  shape-class : (k c : ℕ) → k < 30 → isShape (shapesOf g) s c k ≡ true → ShapeClass k c
+  pub shape-class : (k c : ℕ) → k < 30 → isShape (shapesOf g) s c k ≡ true → ShapeClass k c
   unfolding isShape
   shape-class k c h e =
       let b = active-build (tableOf g) (shapesOf g) (shape-slots limits sup g ok total) s small k h (and-left (active (shapesOf g) s k) _ e) in
@@ -117,6 +117,7 @@ module _ (limits : Limits) (sup : Supported limits) (g : Guard) (ok : WellFormed
 
   -- term x, of class c, is of its lowest variant alone
   pub record SingleClass (x c : ℕ) : Type 0 where
+    pub sort : sortAt (sortsOf g) x ≡ suc (termType g c)
     pub variant : lowestIn (labelOf s x) < variantLimit
     pub isNode : kind c ≡ node (lowestIn (labelOf s x)) []
 
@@ -152,6 +153,7 @@ module _ (limits : Limits) (sup : Supported limits) (g : Guard) (ok : WellFormed
           let f : List·Memᴰ v (fieldless 0 (variantsOf (tableOf g .types) u)) = bit-fieldless (variantsOf (tableOf g .types) u) v (λ z. has (ap (λ (k : ℕ). bit (getD (fieldlessOf g) k 0) v) q ∙ ap (λ (k : ℕ). bit k v) (sorts-have .mask u) ∙ z)) in
           let alone-there : alone S x v ≡ true = sym (same-alone x v h) ∙ and-right (not (eqb (bit (fieldlessAt (sortsOf g) (fieldlessOf g) x) v) 0)) _ only in
           record {
+            sort = q ∙ ap suc (sym (type-at (tableOf g) ls (termType g) typed o (record { term = x; type = u }) m c at));
             variant = fits;
             isNode = kind-once (tableOf g) ls (termType g) typed o c (kind c) (node v []) (why c)
                 (nullary (record { term = x; type = u }) v m at f (alone-test (tableOf g) ls (typed .inRange) (typed .literalsInRange) x v h fits alone-there) refl);
@@ -196,16 +198,24 @@ module _ (limits : Limits) (sup : Supported limits) (g : Guard) (ok : WellFormed
   constants-have : ConstantSlots (tableOf g) (constantsOf g) values
   constants-have = constant-slots limits sup g ok total
 
-  constant-class : (k c : ℕ) → k < 30 → isFixed (constantsOf g) (s .classes) c k ≡ true → kind c ≡ const (constantValue values k)
+  -- the constant in slot k is of class c
+  pub record ConstantClass (k c : ℕ) : Type 0 where
+    pub sort : getD (constantsOf g) k 0 ≡ suc (termType g c)
+    pub isConst : kind c ≡ const (constantValue values k)
+
+  constant-class : (k c : ℕ) → k < 30 → isFixed (constantsOf g) (s .classes) c k ≡ true → ConstantClass k c
   unfolding isFixed
   constant-class k c h e = go (constants-have .found k h (eqb-false _ _ (not-true _ (and-left (isConstant (constantsOf g) k) _ e))))
     where
-      go : (a : Const) × List·Memᴰ a (tableOf g .consts) × ConstantSlot (constantsOf g) values k a → kind c ≡ const (constantValue values k)
+      go : (a : Const) × List·Memᴰ a (tableOf g .consts) × ConstantSlot (constantsOf g) values k a → ConstantClass k c
       go (a, m, slot) =
           let q : classOf S (a .term) ≡ c = sym (agree .class (a .term) (typed .inRange .consts a m)) ∙ ap (classOf s) (sym (slot .term)) ∙ eqb-true _ _ (and-right (isConstant (constantsOf g) k) _ e) in
-          const-kind (tableOf g) ls (termType g) typed o a m (kind c) (subst (λ (d : ℕ). Reason (tableOf g) ls (termType g) typed o d (kind c)) (sym q) (why c)) ∙ ap const (sym (slot .value))
+          record {
+            sort = slot .type ∙ ap suc (sym (type-at (tableOf g) ls (termType g) typed o (record { term = a .term; type = a .type }) (typed .typed .constTerms a m) c q));
+            isConst = const-kind (tableOf g) ls (termType g) typed o a m (kind c) (subst (λ (d : ℕ). Reason (tableOf g) ls (termType g) typed o d (kind c)) (sym q) (why c)) ∙ ap const (sym (slot .value));
+          }
 
-  pub found-constant : (c : ℕ) → constantOf (constantsOf g) (s .classes) c < 30 → kind c ≡ const (constantValue values (constantOf (constantsOf g) (s .classes) c))
+  pub found-constant : (c : ℕ) → constantOf (constantsOf g) (s .classes) c < 30 → ConstantClass (constantOf (constantsOf g) (s .classes) c) c
   unfolding constantOf
   found-constant c h = constant-class (lowest (isFixed (constantsOf g) (s .classes) c) 30) c h (found-passes (isFixed (constantsOf g) (s .classes) c) 30 h)
 

@@ -90,21 +90,24 @@ module _ (t : Table) (ls : List Literal) (type : ℕ → ℕ) (n : TypedNode t l
 
     -- what is asked of the messages of free classes: each belongs to its type, its variant is in the label, and no other
     -- leaf's message is met on the first stretch of its path
-    pub record FreeMessages (Need : ℕ → Type 0) (at : ℕ → ℕ → ℕ) : Type 0 where
+    pub record FreeMessages (Need : ℕ → Type 0) (at : ℕ → ℕ → ℕ) (most : ℕ) : Type 0 where
       pub inside : (u v : ℕ) → 0 < length (fieldsOf (t .types) u v) → at u v < length (fieldsOf (t .types) u v)
       pub needParts : (b : Build) → BuiltAt t (LacksAt S) b → Need (cls (b .term)) → All (λ p. Need (cls p)) (b .parts)
       pub belongs : (c : ℕ) → NeededClass t ls type n o Need c → kind c ≡ free → Belongs (t .types) (freeMessage c) (type c)
       pub held : (x : Term) → List·Memᴰ x (t .terms) → Need (cls (x .term)) → kind (cls (x .term)) ≡ free → (v : ℕ) → IsVariant (freeMessage (cls (x .term))) v → ¬ LacksAt S (x .term) v
-      pub apart : (w u k : ℕ) → NeededClass t ls type n o Need w → NeededClass t ls type n o Need u → Leaf (kind w) → kind u ≡ free → k ≤ highest
+      pub apart : (w u k : ℕ) → NeededClass t ls type n o Need w → NeededClass t ls type n o Need u → Leaf (kind w) → kind u ≡ free → k ≤ most
           → down at k (classMessage u) ≡ classMessage w → w ≡ u
 
-    pub solution : (Need : ℕ → Type 0) (at : ℕ → ℕ → ℕ) → FreeMessages Need at → Solution t ls type n o Need at classMessage classRank highest
-    solution Need at f =
+    -- `rank`, `most`: any ranks that fall, and a bound on those of the classes that get messages
+    pub solution : (Need : ℕ → Type 0) (at : ℕ → ℕ → ℕ) (rank : ℕ → ℕ) (most : ℕ)
+        → ((b : Build) → BuiltAt t (LacksAt (closureOf t ls)) b → All (λ p. rank (classOf (closureOf t ls) p) < rank (classOf (closureOf t ls) (b .term))) (b .parts))
+        → ((c : ℕ) → NeededClass t ls type n o Need c → rank c ≤ most) → FreeMessages Need at most → Solution t ls type n o Need at classMessage rank most
+    solution Need at rank most rankFalls rankLow f =
         record {
           inside = f .inside;
           needParts = f .needParts;
-          rankFalls = rank-falls t ls (n .inRange) (n .literalsInRange) (not-inside t ls S (o .notClosed));
-          rankLow = λ c i. low c;
+          rankFalls = rankFalls;
+          rankLow = rankLow;
           nodeVal = λ c v ps i e. node-message c v ps e;
           constVal = λ c z i e. const-message c z e;
           freeBelongs = λ c i e. subst (λ (m : Message). Belongs (t .types) m (type c)) (sym (free-message c e)) (f .belongs c i e);

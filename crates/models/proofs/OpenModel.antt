@@ -33,9 +33,9 @@ use Rattle.growth.proofs.Rows.{PartsIn, Valued, allRows, class-in, rows-length,
 use Rattle.models.proofs.Classes.{const-class, node-class}
 use Rattle.models.proofs.Drawing.{Drawing, Drawn, drawn-default, drawn-holds, drawn-values, freeBy, kindAt, messageOf, shownBy}
 use Rattle.models.proofs.FreeClasses.{lowest-held, lowestHeld}
-use Rattle.models.proofs.Messages.{const-message, free-message, node-message}
-use Rattle.models.proofs.Nodes.{NodeOf, OpenNode, TypedNode, typed-node}
-use Rattle.models.proofs.Ranks.{few-builds}
+use Rattle.models.proofs.Messages.{classRank, const-message, free-message, node-message}
+use Rattle.models.proofs.Nodes.{NodeOf, OpenNode, TypedNode, not-inside, typed-node}
+use Rattle.models.proofs.Ranks.{few-builds, rank-falls, rank-low}
 use Rattle.models.proofs.TypedTable.{termType}
 
 -- the rows of messages that always suffice: for each term its own message, a lap of its cycle, and a way to it
@@ -183,7 +183,7 @@ module _ (limits : Limits) (sup : Supported limits) (g : Guard) (ok : WellFormed
     unfolding tableOf endFor variantFor plan
     choices-made =
         record {
-          few = in-classes;
+          few = λ c i f. in-classes c i;
           wide = λ c i f e. lowest-held (tableOf g) ls (termType g) node′ o c (i .0) f e .fields;
           fresh = λ u w i f cu iw e. constant-end u w e;
           own = λ u w i f cu iw fw cw e. same u w e;
@@ -216,10 +216,15 @@ module _ (limits : Limits) (sup : Supported limits) (g : Guard) (ok : WellFormed
         closedPlan-ind (g .types) (termType g) variantFor (classes g ls) deep endFor (λ p. planVariant p ≡ some v → (v ≡ variantFor c) × (isNumber (g .types) (termType g c) ≡ false)) c
         (λ e q. absurd (none-some v q)) (λ e h q. ((cc), e)) (λ e h l q. ((cc), e))
 
-    drawing : Drawing limits sup g ok ls nd o All′ plan
-    unfolding tableOf deep variantFor
+    rank : ℕ → ℕ
+    rank = classRank (tableOf g) ls (termType g) node′ o
+
+    drawing : Drawing limits sup g ok ls nd o All′ plan rank deep
+    unfolding tableOf deep variantFor rank
     drawing =
         record {
+          ranks = rank-falls (tableOf g) ls (node′ .inRange) (node′ .literalsInRange) (not-inside (tableOf g) ls S (o .notClosed));
+          low = λ c i. rank-low (tableOf g) ls (node′ .inRange) (node′ .literalsInRange) (not-inside (tableOf g) ls S (o .notClosed)) c;
           rows = λ i h. tt;
           parts = λ b m u. all-of (b .parts) (λ p k. tt);
           fits = planned .fits;
@@ -248,7 +253,7 @@ module _ (limits : Limits) (sup : Supported limits) (g : Guard) (ok : WellFormed
           node-in = λ c v ps m e. all-weaken (λ p q. in-classes p (q, tt)) (node-class (tableOf g) ls (termType g) node′ o c v ps e .partClasses);
           const-val = λ c z m e. const-message (tableOf g) ls (termType g) node′ o (freeBy limits sup g ok ls nd o All′ plan) c z e;
           free-val = λ c m e. free-message (tableOf g) ls (termType g) node′ o (freeBy limits sup g ok ls nd o All′ plan) c e;
-          default-val = λ t h. (classOf S (defaultTerm t), in-classes (classOf S (defaultTerm t)) ((record { term = defaultTerm t; type = t }, term-default g t h, refl), tt), drawn-default limits sup g ok ls nd o All′ plan drawing t h tt);
+          default-val = λ t h. (classOf S (defaultTerm t), in-classes (classOf S (defaultTerm t)) ((record { term = defaultTerm t; type = t }, term-default g t h, refl), tt), drawn-default limits sup g ok ls nd o All′ plan rank deep drawing t h tt);
         }
 
     classes-few : length (classes g ls) ≤ 3 * limits .terms + limits .types
@@ -305,8 +310,8 @@ open-few-rows limits sup g ok ls nd o = go (leb 1 (length (g .types))) refl
     go true e =
         record {
           assignment = shown;
-          holds = drawn-holds limits sup g ok ls nd o (All′ limits sup g ok ls nd o) (plan limits sup g ok ls nd o) (drawing limits sup g ok ls nd o);
-          valued = drawn-values limits sup g ok ls nd o (All′ limits sup g ok ls nd o) (plan limits sup g ok ls nd o) (drawing limits sup g ok ls nd o);
+          holds = drawn-holds limits sup g ok ls nd o (All′ limits sup g ok ls nd o) (plan limits sup g ok ls nd o) (rank limits sup g ok ls nd o) (deep limits sup g ok ls nd o) (drawing limits sup g ok ls nd o) shown (λ i h. refl);
+          valued = drawn-values limits sup g ok ls nd o (All′ limits sup g ok ls nd o) (plan limits sup g ok ls nd o) (rank limits sup g ok ls nd o) (deep limits sup g ok ls nd o) (drawing limits sup g ok ls nd o) shown (λ i h. refl);
           rows = rows limits sup g ok ls nd o;
           shown = λ i h.
               class-in (g .types) (termType g) (variantFor limits sup g ok ls nd o) (classes g ls) (deep limits sup g ok ls nd o) (endFor limits sup g ok ls nd o) (kind limits sup g ok ls nd o) (val limits sup g ok ls nd o)
@@ -317,8 +322,8 @@ open-few-rows limits sup g ok ls nd o = go (leb 1 (length (g .types))) refl
     go false e =
         record {
           assignment = shown;
-          holds = drawn-holds limits sup g ok ls nd o (All′ limits sup g ok ls nd o) (plan limits sup g ok ls nd o) (drawing limits sup g ok ls nd o);
-          valued = drawn-values limits sup g ok ls nd o (All′ limits sup g ok ls nd o) (plan limits sup g ok ls nd o) (drawing limits sup g ok ls nd o);
+          holds = drawn-holds limits sup g ok ls nd o (All′ limits sup g ok ls nd o) (plan limits sup g ok ls nd o) (rank limits sup g ok ls nd o) (deep limits sup g ok ls nd o) (drawing limits sup g ok ls nd o) shown (λ i h. refl);
+          valued = drawn-values limits sup g ok ls nd o (All′ limits sup g ok ls nd o) (plan limits sup g ok ls nd o) (rank limits sup g ok ls nd o) (deep limits sup g ok ls nd o) (drawing limits sup g ok ls nd o) shown (λ i h. refl);
           rows = [];
           shown = λ i h. absurd (no-rows (leb-false 1 _ e) i h);
           parts = λ m k. absurd (List·Memᴰ·not-nil k);

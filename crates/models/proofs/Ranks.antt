@@ -28,7 +28,7 @@ use Rattle.models.proofs.Nodes.{build-of, built-term, parts-small}
 -- ---- what is reached
 module _ (s : State) (bs : List Build) (small : (b : Build) → List·Memᴰ b bs → All (λ p. classOf s p < termCount) (b .parts)) where
   -- a list that holds the parts of all its classes
-  abbrev Complete : List ℕ → Type 0
+  abbrev pub Complete : List ℕ → Type 0
   Complete cs = (d : ℕ) → List·Memᴰ d cs → (e : ℕ) → List·Memᴰ e (partsOf s bs d) → List·Memᴰ e cs
 
   part-small : (d e : ℕ) → List·Memᴰ e (partsOf s bs d) → e < termCount
@@ -54,10 +54,10 @@ module _ (s : State) (bs : List Build) (small : (b : Build) → List·Memᴰ b b
       go ih true q = λ d m e n. union-same (concatMap (partsOf s bs) cs) cs (eqb-true _ _ q) e (mem-concatMap (partsOf s bs) cs m n)
       go ih false q = ih (omega (arith, following-falls cs (eqb-false _ _ q)))
 
-  complete : (cs : List ℕ) → Complete (reached termCount s bs cs)
+  pub complete : (cs : List ℕ) → Complete (reached termCount s bs cs)
   complete cs = reached-complete termCount cs (omega (arith, filter-most (λ k. not (member k cs)) (from termCount 0)))
 
-  reached-keeps : (k : ℕ) (cs : List ℕ) (x : ℕ) → List·Memᴰ x cs → List·Memᴰ x (reached k s bs cs)
+  pub reached-keeps : (k : ℕ) (cs : List ℕ) (x : ℕ) → List·Memᴰ x cs → List·Memᴰ x (reached k s bs cs)
   reached-keeps zero cs x m = m
   reached-keeps (suc k) cs x m = go (eqb (length (following cs)) (length cs)) (reached-keeps k (following cs) x (union-right (concatMap (partsOf s bs) cs) cs x m))
     where
@@ -85,7 +85,7 @@ module _ (s : State) (bs : List Build) (small : (b : Build) → List·Memᴰ b b
   abbrev pub rankOf : ℕ → ℕ
   rankOf c = length (filter (λ b. member (classOf s (b .term)) (from-class c)) bs)
 
-  is-part : (b : Build) → List·Memᴰ b bs → (p : ℕ) → List·Memᴰ p (b .parts) → List·Memᴰ (classOf s p) (partsOf s bs (classOf s (b .term)))
+  pub is-part : (b : Build) → List·Memᴰ b bs → (p : ℕ) → List·Memᴰ p (b .parts) → List·Memᴰ (classOf s p) (partsOf s bs (classOf s (b .term)))
   is-part b m p n =
       mem-concatMap (λ a. when (eqb (classOf s (a .term)) (classOf s (b .term))) (map (classOf s) (a .parts))) bs m
       (go (eqb (classOf s (b .term)) (classOf s (b .term))) (eq-eqb (classOf s (b .term)) (classOf s (b .term)) refl))
