@@ -1,5 +1,5 @@
 -- The classes that get a message at a state: those of rows, and of the parts of what gets one. And what a pass that marks
--- them has to show. Assumes nothing: definitions.
+-- parts of marked classes has to show. Assumes nothing: definitions.
 use mathlib.Core.Path.{_≡_}
 use mathlib.Core.Bool.{Bool, true, false}
 use mathlib.Core.List.{List}
@@ -41,11 +41,13 @@ unfoldable pub rowMarks : List ℕ → ℕ → List ℕ → List ℕ
 rowMarks classes zero marks = marks
 rowMarks classes (suc i) marks = set (rowMarks classes i marks) (getD classes i 0) 0
 
--- steps that mark, one by one, parts of what is marked
-pub data Steps (shapes : List ℕ) (s : State) (marks : List ℕ) : List ℕ → Type 0 where
-  done : Steps shapes s marks marks
-  then : {next : List ℕ} → Steps shapes s marks next → (k p : ℕ) → k < 30 → p < manyAt shapes k → active shapes s k ≡ true → Marked next (ownClass shapes s k)
-      → Steps shapes s marks (set next (partClass shapes s k p) 0)
+-- the parts of class c are to be marked: it is marked, or is the one to start from
+abbrev pub Leads : ℕ → List ℕ → ℕ → Type 0
+Leads start marks c = Marked marks c ⊎ (c ≡ start)
+
+-- what stands for no class to start from
+abbrev pub noClass : ℕ
+noClass = 96
 
 -- a claim about marks, for the first n numbers
 abbrev pub UpTo : (ℕ → List ℕ → Type 0) → ℕ → List ℕ → Type 0
@@ -55,12 +57,24 @@ UpTo Claim n marks = (j : ℕ) → j < n → Claim j marks
 abbrev pub PartMarked : List ℕ → State → ℕ → ℕ → List ℕ → Type 0
 PartMarked shapes s k p marks = Marked marks (partClass shapes s k p)
 
--- all parts of shape k are marked, if it is
-abbrev pub Followed : List ℕ → State → ℕ → List ℕ → Type 0
-Followed shapes s k marks = active shapes s k ≡ true → Marked marks (ownClass shapes s k) → UpTo (PartMarked shapes s k) (manyAt shapes k) marks
+module _ (shapes : List ℕ) (s : State) (start : ℕ) where
+  -- steps that mark, one by one, parts of what is marked or of the class to start from
+  pub data Steps (marks : List ℕ) : List ℕ → Type 0 where
+    done : Steps marks marks
+    then : {next : List ℕ} → Steps marks next → (k p : ℕ) → k < 30 → p < manyAt shapes k → active shapes s k ≡ true → Leads start next (ownClass shapes s k)
+        → Steps marks (set next (partClass shapes s k p) 0)
 
--- only parts of what is marked are marked; the sum falls if anything changed; if nothing changed, the claim holds
-pub record Pass (shapes : List ℕ) (s : State) (Claim : List ℕ → Type 0) (marks next : List ℕ) (changed : Bool) : Type 0 where
-  pub steps : Steps shapes s marks next
-  pub falls : changed ≡ true → sum next < sum marks
-  pub quiet : changed ≡ false → (next ≡ marks) × Claim marks
+  -- all parts of shape k are marked, if they are to be
+  abbrev pub Followed : ℕ → List ℕ → Type 0
+  Followed k marks = active shapes s k ≡ true → Leads start marks (ownClass shapes s k) → UpTo (PartMarked shapes s k) (manyAt shapes k) marks
+
+  -- only such parts are marked; the sum falls if anything changed; if nothing changed, the claim holds
+  pub record Pass (Claim : List ℕ → Type 0) (marks next : List ℕ) (changed : Bool) : Type 0 where
+    pub steps : Steps marks next
+    pub falls : changed ≡ true → sum next < sum marks
+    pub quiet : changed ≡ false → (next ≡ marks) × Claim marks
+
+  -- such parts are marked, and no others
+  pub record AllFollowed (marks next : List ℕ) : Type 0 where
+    pub steps : Steps marks next
+    pub all : UpTo Followed 30 next

@@ -1,14 +1,12 @@
 // The classes of an open node that get a message: those of rows, and of parts of what gets one.
 ghost use mathlib.Core.Path.{_≡_};
-ghost use mathlib.Core.Bool.{true, not};
+ghost use mathlib.Core.Bool.{true, not, _||_};
 ghost use Prim.Native.Nat.{_<_, _≤_};
 ghost use lib.Dec.{eqb};
 ghost use lib.ListN.{getD, set};
 ghost use Rattle.classes.specs.Held.{Held, state};
-ghost use Rattle.saturation.specs.Due.{ShapesFit, active, manyAt, ownerAt, partAt};
-ghost use Rattle.needed.specs.Needed.{Followed, Marked, Marks, PartMarked, Pass, UpTo, noMarks, ownClass, rowMarks};
-
-// ---- readers
+ghost use Rattle.saturation.specs.Due.{ShapesFit, active, manyAt};
+ghost use Rattle.needed.specs.Needed.{AllFollowed, Followed, Leads, Marks, PartMarked, Pass, UpTo, noMarks, ownClass, rowMarks};
 
 fn wide(x: u8) -> usize
     ensures { λ r. ⌜ r ≡ x ⌝ }
@@ -16,65 +14,35 @@ fn wide(x: u8) -> usize
     x as usize
 }
 
-fn word(x: u16) -> usize
-    ensures { λ r. ⌜ r ≡ x ⌝ }
-{
-    x as usize
-}
+// ---- marks: 0 for marked
 
-fn class_at(classes: &[u8; 96], x: usize) -> usize
-    requires { ⌜ x < 96 ⌝ }
-    ensures { λ r. ⌜ r ≡ getD (now (classes .entry)) x 0 ⌝ }
-{
-    wide(classes[x])
-}
-
-fn owner_at(shapes: &[u16; 256], k: usize) -> usize
-    requires { ⌜ k < 30 ⌝ }
-    ensures { λ r. ⌜ r ≡ ownerAt (now (shapes .entry)) k ⌝ }
-{
-    word(shapes[8 * k])
-}
-
-fn many_at(shapes: &[u16; 256], k: usize) -> usize
-    requires { ⌜ k < 30 ⌝ }
-    ensures { λ r. ⌜ r ≡ manyAt (now (shapes .entry)) k ⌝ }
-{
-    word(shapes[8 * k + 3])
-}
-
-fn part_at(shapes: &[u16; 256], k: usize, p: usize) -> usize
-    requires { ⌜ (k < 30) × (p < 3) ⌝ }
-    ensures { λ r. ⌜ r ≡ partAt (now (shapes .entry)) k p ⌝ }
-{
-    word(shapes[8 * k + 4 + p])
-}
-
-// ---- marks: 0 for needed
-
-fn clear(spare: &mut [u8; 96])
+pub fn clear(spare: &mut [u8; 96])
     ensures { λ _. ⌜ now (spare .exit) ≡ noMarks ⌝ }
 {
     *spare = [1u8; 96];
 }
 
-fn is_marked(classes: &[u8; 96], spare: &[u8; 96], x: usize) -> bool
+// Whether the parts of a term's class are to be marked: it is marked, or is the one to start from.
+fn leads(classes: &[u8; 96], spare: &[u8; 96], start: u8, x: u8) -> bool
     requires { ⌜ x < 96 ⌝ }
     requires { ⌜ Held (now classes) ⌝ }
-    ensures { λ r. ⌜ r ≡ eqb (getD (now (spare .entry)) (getD (now (classes .entry)) x 0) 0) 0 ⌝ }
+    ensures { λ r. ⌜ r ≡ (eqb (getD (now (classes .entry)) x 0) start || eqb (getD (now (spare .entry)) (getD (now (classes .entry)) x 0) 0) 0) ⌝ }
 {
-    let c = class_at(classes, x);
-    spare[c] == 0
+    let class = classes::class_of(classes, x);
+    if class == start {
+        return true;
+    }
+    spare[wide(class)] == 0
 }
 
 // Marks the class of a term; true if it was not marked.
-fn mark(classes: &[u8; 96], spare: &mut [u8; 96], x: usize) -> bool
+fn mark(classes: &[u8; 96], spare: &mut [u8; 96], x: u8) -> bool
     requires { ⌜ x < 96 ⌝ }
     requires { ⌜ Held (now classes) ⌝ }
     ensures { λ r. ⌜ r ≡ not (eqb (getD (now (spare .entry)) (getD (now (classes .entry)) x 0) 0) 0) ⌝ }
     ensures { λ r. ⌜ now (spare .exit) ≡ set (now (spare .entry)) (getD (now (classes .entry)) x 0) 0 ⌝ }
 {
-    let c = class_at(classes, x);
+    let c = wide(classes::class_of(classes, x));
     let new = spare[c] != 0;
     spare[c] = 0;
     new
@@ -87,16 +55,17 @@ fn mark_rows(classes: &[u8; 96], rows: usize, spare: &mut [u8; 96])
 {
     let mut i: usize = 0;
     while i < rows {
-        mark(classes, spare, i);
+        mark(classes, spare, i as u8);
         i += 1;
     }
 }
 
-// Marks the parts of shape `k`, whose own class is marked; true if one was not.
+// Marks the parts of shape `k`, which are to be marked; true if one was not.
 fn mark_parts(
     classes: &[u8; 96],
     labels: &[u16; 96],
     shapes: &[u16; 256],
+    start: u8,
     spare: &mut [u8; 96],
     k: usize,
 ) -> bool
@@ -104,14 +73,14 @@ fn mark_parts(
     requires { ⌜ Held (now classes) ⌝ }
     requires { ⌜ ShapesFit (now shapes) ⌝ }
     requires { ⌜ active (now shapes) (state (now classes) (now labels)) k ≡ true ⌝ }
-    requires { ⌜ Marked (now spare) (ownClass (now shapes) (state (now classes) (now labels)) k) ⌝ }
-    ensures { λ r. ⌜ Pass (now (shapes .entry)) (state (now (classes .entry)) (now (labels .entry))) (UpTo (PartMarked (now (shapes .entry)) (state (now (classes .entry)) (now (labels .entry))) k) (manyAt (now (shapes .entry)) k)) (now (spare .entry)) (now (spare .exit)) r ⌝ }
+    requires { ⌜ Leads start (now spare) (ownClass (now shapes) (state (now classes) (now labels)) k) ⌝ }
+    ensures { λ r. ⌜ Pass (now (shapes .entry)) (state (now (classes .entry)) (now (labels .entry))) start (UpTo (PartMarked (now (shapes .entry)) (state (now (classes .entry)) (now (labels .entry))) k) (manyAt (now (shapes .entry)) k)) (now (spare .entry)) (now (spare .exit)) r ⌝ }
 {
-    let many = many_at(shapes, k);
+    let many = saturation::many(shapes, k);
     let mut changed = false;
     let mut p: usize = 0;
     while p < many {
-        if mark(classes, spare, part_at(shapes, k, p)) {
+        if mark(classes, spare, saturation::part(shapes, k, p)) {
             changed = true;
         }
         p += 1;
@@ -119,26 +88,27 @@ fn mark_parts(
     changed
 }
 
-// Marks the parts of shape `k` if it is there and marked.
+// Marks the parts of shape `k` if it is there and they are to be marked.
 fn follow(
     classes: &[u8; 96],
     labels: &[u16; 96],
     shapes: &[u16; 256],
+    start: u8,
     spare: &mut [u8; 96],
     k: usize,
 ) -> bool
     requires { ⌜ k < 30 ⌝ }
     requires { ⌜ Held (now classes) ⌝ }
     requires { ⌜ ShapesFit (now shapes) ⌝ }
-    ensures { λ r. ⌜ Pass (now (shapes .entry)) (state (now (classes .entry)) (now (labels .entry))) (Followed (now (shapes .entry)) (state (now (classes .entry)) (now (labels .entry))) k) (now (spare .entry)) (now (spare .exit)) r ⌝ }
+    ensures { λ r. ⌜ Pass (now (shapes .entry)) (state (now (classes .entry)) (now (labels .entry))) start (Followed (now (shapes .entry)) (state (now (classes .entry)) (now (labels .entry))) start k) (now (spare .entry)) (now (spare .exit)) r ⌝ }
 {
     if !saturation::active(classes, labels, shapes, k) {
         return false;
     }
-    if !is_marked(classes, spare, owner_at(shapes, k)) {
+    if !leads(classes, spare, start, saturation::owner(shapes, k)) {
         return false;
     }
-    mark_parts(classes, labels, shapes, spare, k)
+    mark_parts(classes, labels, shapes, start, spare, k)
 }
 
 // One round over all shapes; true if a class was marked.
@@ -146,21 +116,37 @@ fn follow_all(
     classes: &[u8; 96],
     labels: &[u16; 96],
     shapes: &[u16; 256],
+    start: u8,
     spare: &mut [u8; 96],
 ) -> bool
     requires { ⌜ Held (now classes) ⌝ }
     requires { ⌜ ShapesFit (now shapes) ⌝ }
-    ensures { λ r. ⌜ Pass (now (shapes .entry)) (state (now (classes .entry)) (now (labels .entry))) (UpTo (Followed (now (shapes .entry)) (state (now (classes .entry)) (now (labels .entry)))) 30) (now (spare .entry)) (now (spare .exit)) r ⌝ }
+    ensures { λ r. ⌜ Pass (now (shapes .entry)) (state (now (classes .entry)) (now (labels .entry))) start (UpTo (Followed (now (shapes .entry)) (state (now (classes .entry)) (now (labels .entry))) start) 30) (now (spare .entry)) (now (spare .exit)) r ⌝ }
 {
     let mut any = false;
     let mut k: usize = 0;
     while k < 30 {
-        if follow(classes, labels, shapes, spare, k) {
+        if follow(classes, labels, shapes, start, spare, k) {
             any = true;
         }
         k += 1;
     }
     any
+}
+
+// Marks the parts of class `start` and of all marked classes, until nothing is new. Class 96 is no class.
+pub fn follow_parts(
+    classes: &[u8; 96],
+    labels: &[u16; 96],
+    shapes: &[u16; 256],
+    start: u8,
+    spare: &mut [u8; 96],
+)
+    requires { ⌜ Held (now classes) ⌝ }
+    requires { ⌜ ShapesFit (now shapes) ⌝ }
+    ensures { λ _. ⌜ AllFollowed (now (shapes .entry)) (state (now (classes .entry)) (now (labels .entry))) start (now (spare .entry)) (now (spare .exit)) ⌝ }
+{
+    while follow_all(classes, labels, shapes, start, spare) {}
 }
 
 // Leaves 0 at each class that is needed and 1 at the others, whatever was there.
@@ -178,5 +164,5 @@ pub fn needed(
 {
     clear(spare);
     mark_rows(classes, rows, spare);
-    while follow_all(classes, labels, shapes, spare) {}
+    follow_parts(classes, labels, shapes, 96, spare);
 }

@@ -16,6 +16,9 @@ abbrev μ-loop : tie.MeasureT-loop
 loop-holds : tie.Need-loop-holds Inv-loop μ-loop
 loop-holds c = (omega arith, rows-none (c .args .classes .now) (c .args .spare .now))
 
+cast-mark : tie.Need-cast-mark Inv-loop μ-loop
+cast-mark c = omega (arith, c .before .before .before .pre .0)
+
 mark-requires : tie.Need-mark-requires Inv-loop μ-loop
 mark-requires c κs = let b = c .before .before .before in (omega (arith, b .pre .0), b .pre .1)
 
@@ -34,4 +37,4 @@ returns c =
 
 pub mark-rows-spec : {M : Type 1} → statement M
 mark-rows-spec =
-    tie.close (tie.spec Inv-loop μ-loop loop-holds mark-requires (λ c. omega (arith, c .before .before .before .before .pre .0)) (λ c. omega arith) loop-again returns)
+    tie.close (tie.spec Inv-loop μ-loop loop-holds cast-mark mark-requires (λ c. omega (arith, c .before .before .before .before .pre .0)) (λ c. omega arith) loop-again returns)

@@ -1,0 +1,2 @@
+pub mod CycleLaws
+pub mod PartLaws
