@@ -35,21 +35,25 @@ fn has_unlike_constants(problem: &Problem, state: &State) -> bool {
     })
 }
 
-/// Each round raises the classes that aren't above all their parts. Without a cycle there
-/// are fewer rounds than shapes.
+/// Classes sink below their parts until all are, or one is at the bottom. Without a cycle
+/// a class sinks at most once for each shape.
 fn has_cycle(problem: &Problem, state: &State) -> bool {
-    let mut ranks = [0; PLACES];
-    (1..32).all(|round| raise_all(problem, state, &mut ranks, round))
+    let mut levels = [31; PLACES];
+    while sink_all(problem, state, &mut levels) {}
+    levels.contains(&0)
 }
 
-/// One round; true if a class was raised.
-fn raise_all(problem: &Problem, state: &State, ranks: &mut [u8; PLACES], round: u8) -> bool {
+/// One round, from the last shape to the first; true if a class sank.
+fn sink_all(problem: &Problem, state: &State, levels: &mut [u8; PLACES]) -> bool {
     let mut any = false;
-    for shape in &problem.shapes {
-        let owner = state.class(shape.owner) as usize;
-        let above = |&part: &Term| ranks[owner] <= ranks[state.class(part) as usize];
-        if shape.parts().iter().any(above) && is_active(state, shape) {
-            ranks[owner] = round;
+    for shape in problem.shapes.iter().rev() {
+        let parts = shape.parts().iter();
+        let Some(low) = parts.map(|&part| levels[state.class(part) as usize]).min() else {
+            continue;
+        };
+        let level = &mut levels[state.class(shape.owner) as usize];
+        if low != 0 && *level >= low && is_active(state, shape) {
+            *level = low - 1;
             any = true;
         }
     }

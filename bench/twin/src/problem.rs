@@ -32,6 +32,11 @@ impl Shape {
     pub fn parts(&self) -> &[Term] {
         &self.parts[..self.arity as usize]
     }
+
+    /// All three places, with 0 past the parts.
+    pub fn places(&self) -> [Term; 3] {
+        self.parts
+    }
 }
 
 #[derive(Clone, Copy, Default)]

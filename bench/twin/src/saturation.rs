@@ -2,7 +2,7 @@
 
 use oracle::problem::is_alone;
 
-use crate::problem::{Problem, Read, Shape, Term, TERMS};
+use crate::problem::{Problem, Read, Shape, Term, SLOTS, TERMS};
 use crate::state::State;
 
 /// Adds what the rules give until nothing is new.
@@ -82,35 +82,72 @@ pub fn is_active(state: &State, shape: &Shape) -> bool {
     shape.kind != 0 && state.label(shape.owner) & shape.others == 0
 }
 
-fn pass_shapes(problem: &Problem, state: &mut State) -> bool {
-    let mut changed = false;
-    for (k, shape) in problem.shapes.iter().enumerate() {
-        if is_active(state, shape) {
-            for before in &problem.shapes[..k] {
-                changed |= meet_shapes(state, shape, before);
+/// Numbers of active shapes to compare, and 0 for others: of the kind and the classes of
+/// all parts, and of the kind and the owner's class.
+struct Keys {
+    parts: [u32; SLOTS],
+    owners: [u32; SLOTS],
+}
+
+impl Keys {
+    fn new(problem: &Problem, state: &State) -> Keys {
+        let mut keys = Keys {
+            parts: [0; SLOTS],
+            owners: [0; SLOTS],
+        };
+        for (k, shape) in problem.shapes.iter().enumerate() {
+            if is_active(state, shape) {
+                let [a, b, c] = shape.places().map(|part| state.class(part));
+                keys.parts[k] = u32::from_be_bytes([shape.kind, a, b, c]);
+                keys.owners[k] =
+                    256 * u32::from(shape.kind) + u32::from(state.class(shape.owner)) + 1;
             }
+        }
+        keys
+    }
+
+    /// Whether shape k and one before it agree in one key and not in the other.
+    fn differs(&self, k: usize) -> bool {
+        let (part, owner) = (self.parts[k], self.owners[k]);
+        let before = self.parts[..k].iter().zip(&self.owners[..k]);
+        let any = |any, (&a, &b): (&u32, &u32)| any | ((a == part) != (b == owner));
+        owner != 0 && before.fold(false, any)
+    }
+}
+
+/// The shapes in turn, until one changes something.
+fn pass_shapes(problem: &Problem, state: &mut State) -> bool {
+    let keys = Keys::new(problem, state);
+    (0..SLOTS).any(|k| keys.differs(k) && pass_shape(problem, state, k))
+}
+
+/// A shape and those before it.
+fn pass_shape(problem: &Problem, state: &mut State, k: usize) -> bool {
+    let shape = &problem.shapes[k];
+    let mut changed = false;
+    if is_active(state, shape) {
+        for before in &problem.shapes[..k] {
+            changed |= meet_shapes(state, shape, before);
         }
     }
     changed
 }
 
-/// Of two shapes of one variant: the same parts make equal owners, and equal owners the
-/// same parts.
+/// Of two shapes of one variant: equal owners make the same parts, and the same parts
+/// equal owners.
 fn meet_shapes(state: &mut State, shape: &Shape, before: &Shape) -> bool {
     if before.kind != shape.kind || !is_active(state, before) {
         return false;
     }
-    let parts = before.parts().iter().zip(shape.parts());
-    if parts.clone().all(|(&a, &b)| state.equal(a, b)) {
-        return state.unite(before.owner, shape.owner);
-    }
-    let mut changed = false;
+    let mut parts = before.parts().iter().zip(shape.parts());
     if state.equal(before.owner, shape.owner) {
+        let mut changed = false;
         for (&a, &b) in parts {
             changed |= state.unite(a, b);
         }
+        return changed;
     }
-    changed
+    parts.all(|(&a, &b)| state.equal(a, b)) && state.unite(before.owner, shape.owner)
 }
 
 fn pass_reads(problem: &Problem, state: &mut State) -> bool {

@@ -34,8 +34,8 @@ module _ (shapes sorts full constants : List ℕ) (values : List ℤ) (kinds ter
           found c 96 _ (lowest (unlikeAt constants values (s .classes) 30) 96) isC h ∙ skipped j many _ (lowest (brokenAt kinds terms others (s .classes)) many) isJ whole
           ∙ skipped x 78 _ (lowest (emptyAt sorts full s) 78) isX held
 
-      pub closed-cyclic : 96 ≤ c → (falls : Bool) → falls ≡ rankingOf shapes s .falls → not falls ≡ closedBy shapes sorts full constants values kinds terms others many s
+      pub closed-cyclic : 96 ≤ c → (r : Bool) → r ≡ not (rankingOf shapes s .falls) → r ≡ closedBy shapes sorts full constants values kinds terms others many s
       unfolding closedBy
-      closed-cyclic h falls e =
-          ap not e ∙ skipped c 96 _ (lowest (unlikeAt constants values (s .classes) 30) 96) isC h ∙ skipped j many _ (lowest (brokenAt kinds terms others (s .classes)) many) isJ whole
+      closed-cyclic h r e =
+          e ∙ skipped c 96 _ (lowest (unlikeAt constants values (s .classes) 30) 96) isC h ∙ skipped j many _ (lowest (brokenAt kinds terms others (s .classes)) many) isJ whole
           ∙ skipped x 78 _ (lowest (emptyAt sorts full s) 78) isX held

@@ -95,7 +95,7 @@ module _ (limits : Limits) (supported : Supported limits) (g : Guard) (ok : Well
 
   -- ---- where no class is a part of itself, the builds reached from a class give heights
 
-  parts-small : (b : Build) → List·Memᴰ b bs → All (λ p. classOf s p < termCount) (b .parts)
+  pub parts-small : (b : Build) → List·Memᴰ b bs → All (λ p. classOf s p < termCount) (b .parts)
   parts-small =
       all-mem (all-builds t s (λ b m. all-weaken (λ p h. inside p h) (range .builds b m .2)) (λ r m e. all-weaken (λ p h. inside p h) (range .reads r m .4)))
 

@@ -11,3 +11,4 @@ pub mod SplitLaws
 pub mod ReasonLaws
 pub mod CycleLaws
 pub mod NodeLaws
+pub mod LevelLaws

@@ -109,6 +109,23 @@ module _ (shapes : List ℕ) (s : State) where
   unfolding rankingOf
   ranks-small = rounds-small 31 1 noRanks (omega arith) (λ c. omega (arith, no-rank c))
 
+  -- where they fall, the last round raised nothing
+  rounds-low : (left round : ℕ) (ranks : List ℕ) → left + round ≤ 32 → ((c : ℕ) → getD ranks c 0 < round) → rankFrom shapes s left round ranks .falls ≡ true → (c : ℕ) → getD (rankFrom shapes s left round ranks .ranks) c 0 ≤ 30
+  unfolding rankFrom
+  rounds-low zero round ranks h f e c = absurd (false≢true e)
+  rounds-low (suc left) round ranks h f e c =
+      go (rounds-low left (suc round) (raisedTo shapes s round 30 ranks) (omega arith) (λ d. omega (arith, round-small round round 30 ranks (omega arith) (λ x. omega (arith, f x)) d))) (raisesTo shapes s round 30 ranks) refl e
+    where
+      go : (rankFrom shapes s left (suc round) (raisedTo shapes s round 30 ranks) .falls ≡ true → (c : ℕ) → getD (rankFrom shapes s left (suc round) (raisedTo shapes s round 30 ranks) .ranks) c 0 ≤ 30) → (b : Bool) → raisesTo shapes s round 30 ranks ≡ b
+          → cond b (rankFrom shapes s left (suc round) (raisedTo shapes s round 30 ranks)) (record { falls = true; ranks = raisedTo shapes s round 30 ranks }) .falls ≡ true
+          → getD (cond b (rankFrom shapes s left (suc round) (raisedTo shapes s round 30 ranks)) (record { falls = true; ranks = raisedTo shapes s round 30 ranks }) .ranks) c 0 ≤ 30
+      go ih true q t = ih t c
+      go ih false q t = let same : getD (raisedTo shapes s round 30 ranks) c 0 ≡ getD ranks c 0 = ap (λ (l : List ℕ). getD l c 0) (still round 30 ranks q .0) in omega (arith, same, f c)
+
+  pub ranks-low : rankingOf shapes s .falls ≡ true → (c : ℕ) → getD (rankingOf shapes s .ranks) c 0 ≤ 30
+  unfolding rankingOf
+  ranks-low e = rounds-low 31 1 noRanks (omega arith) (λ c. omega (arith, no-rank c)) e
+
   -- ---- where heights fall, ranks do
 
   module _ (held : Held (s .classes)) (height : ℕ → ℕ) (most : (c : ℕ) → height c ≤ 30)

@@ -1,6 +1,6 @@
 -- The arrays of a well-formed guard's problem: each slot is of a read, a build or a term of the guard's table, or empty, and each of
 -- these has its slot. So the numbers in the arrays are those of terms and types. Assumes nothing.
-use mathlib.Core.Path.{_≡_, refl, ap, sym, _∙_, subst}
+use mathlib.Core.Path.{_≡_, refl, ap, ap₂, sym, _∙_, subst}
 use mathlib.Core.List.{List, [], List·Memᴰ}
 use mathlib.Core.Logic.{_⊎_, inl, inr}
 use mathlib.Core.Option.{Option, none, some}
@@ -8,7 +8,7 @@ use Prim.Native.Nat.{ℕ, zero, suc, _+_, _*_, _-_, _^_, _≤_, _<_}
 use native.Mathlib.Nat.{add-zero}
 use native.Mathlib.Omega.{arith}
 use lib.Dec.{ltb}
-use lib.ListN.{getD, length}
+use lib.ListN.{List·getD-eq-default, getD, length}
 use borrow.Author.Tests.{ltb-false, ltb-true}
 use Rattle.laws.specs.All.{All, All.more, All.none}
 use Rattle.laws.proofs.Bools.{by-test, either}
@@ -24,9 +24,9 @@ use Rattle.guard.proofs.ClosureBelow.{InRange}
 use Rattle.guard.proofs.TableLaws.{build-default, build-inv, build-row, defaultBuildOf, few-rows, read-inv, read-row, row-fit, table-in-range}
 use Rattle.tables.specs.Layout.{flat, pad}
 use Rattle.tables.proofs.Columns.{pad-get}
-use Rattle.problem.specs.Problem.{defaultShape, fieldlessOf, noShape, readsOf, rowRead, rowShape, shape, shapesOf, sortsOf}
+use Rattle.problem.specs.Problem.{defaultShape, fieldlessOf, kindNumber, noShape, readsOf, rowRead, rowShape, shape, shapesOf, sortsOf}
 use Rattle.problem.proofs.SlotLaws.{default-shape-at, field-length, fieldless-at, fieldless-none, no-default-shape, no-row-read, no-row-shape, row-read-at, row-shape-at, sort-of, sort-term, sorts-small}
-use Rattle.saturation.specs.Due.{ReadsFit, ShapesFit, SortsFit, manyAt, othersAt, ownerAt, partAt}
+use Rattle.saturation.specs.Due.{ReadsFit, ShapesFit, SortsFit, kindAt, manyAt, othersAt, ownerAt, partAt}
 use Rattle.saturation.proofs.ReadsFollow.{ReadSlot, ReadSlots}
 use Rattle.saturation.proofs.ShapesFollow.{ShapeSlot, ShapeSlots, Shaped, Shaped.of-build, Shaped.of-read}
 use Rattle.saturation.proofs.SinglesFollow.{SortSlots}
@@ -211,6 +211,10 @@ module _ (limits : Limits) (sup : Supported limits) (g : Guard) (ok : WellFormed
         part = λ p l. omega (arith, x .part p (omega arith), at-small hs p);
       }
 
+  -- the build of a slot in use
+  abbrev SlotBuild : ℕ → Type 0
+  SlotBuild k = (b : Build) × ShapeSlot (tableOf g) (shapesOf g) k b
+
   pub shapes-fit : ShapesFit (shapesOf g)
   shapes-fit =
       record {
@@ -218,8 +222,28 @@ module _ (limits : Limits) (sup : Supported limits) (g : Guard) (ok : WellFormed
         others = λ k h. either (λ x. shaped-others k x) (λ z. omega (arith, z 2 (omega arith))) (shape-cases k h);
         many = λ k h. either (λ x. of-shaped k x .many) (λ z. omega (arith, z 3 (omega arith))) (shape-cases k h);
         part = λ k p h l. either (λ x. omega (arith, of-shaped k x .part p l)) (λ z. omega (arith, no-part k p l z)) (shape-cases k h);
+        arity = λ k i hk hi e. either (λ x. either (λ y. same-arity k i e (slot-build k x) (slot-build i y)) (λ z. absurd (slot-kind k (slot-build k x) (e ∙ z 1 (omega arith)))) (shape-cases i hi))
+            (λ z. either (λ y. absurd (slot-kind i (slot-build i y) (sym e ∙ z 1 (omega arith)))) (λ u. z 3 (omega arith) ∙ sym (u 3 (omega arith))) (shape-cases i hi)) (shape-cases k hk);
+        past = λ k p h l m. either (λ x. past-parts k p l m (slot-build k x)) (no-part k p l) (shape-cases k h);
       }
     where
+      slot-build : (k : ℕ) → Shaped (tableOf g) (shapesOf g) k → SlotBuild k
+      slot-build k (of-build b m x o) = (b, x)
+      slot-build k (of-read r m x o) = (asBuild r, x)
+
+      slot-kind : (k : ℕ) → SlotBuild k → ¬ (kindAt (shapesOf g) k ≡ 0)
+      slot-kind k (b, x) z = omega (arith, z, x .kind)
+
+      same-arity : (k i : ℕ) → kindAt (shapesOf g) k ≡ kindAt (shapesOf g) i → SlotBuild k → SlotBuild i → manyAt (shapesOf g) k ≡ manyAt (shapesOf g) i
+      same-arity k i e (b, x) (a, y) =
+          let z : kindNumber (b .type) (b .variant) ≡ kindNumber (a .type) (a .variant) = sym (x .kind) ∙ e ∙ y .kind in
+          let types : b .type ≡ a .type = omega (arith, z, x .variantFits, y .variantFits) in
+          let variants : b .variant ≡ a .variant = omega (arith, z, x .variantFits, y .variantFits) in
+          x .many ∙ x .arity ∙ ap₂ (λ (u v : ℕ). length (fieldsOf (tableOf g .types) u v)) types variants ∙ sym (y .arity) ∙ sym (y .many)
+
+      past-parts : (k p : ℕ) → p < 3 → manyAt (shapesOf g) k ≤ p → SlotBuild k → partAt (shapesOf g) k p ≡ 0
+      past-parts k p l m (b, x) = x .part p (omega arith) ∙ List·getD-eq-default (b .parts) 0 {n = p} (omega (arith, m, x .many))
+
       of-shaped : (k : ℕ) → Shaped (tableOf g) (shapesOf g) k → Numbered k
       of-shaped k (of-build b m x o) = numbered k b x (ranged .builds b m .0) (ranged .builds b m .2)
       of-shaped k (of-read r m x o) = numbered k (asBuild r) x (ranged .reads r m .1) (ranged .reads r m .4)

@@ -33,7 +33,7 @@ pub still-held : (cs ls cs′ ls′ : List ℕ) (f : Fact) → Held cs → state
 still-held cs ls cs′ ls′ f h e = subst Held (sym (ap (λ (s : State). s .classes) e)) (held-after (state cs ls) f h)
 
 -- where all that is due holds, nothing has to be done
-settled : (due : Due) (s : State) → All (λ f. holds s f ≡ true) (due s) → Pass due s s false
+pub settled : (due : Due) (s : State) → All (λ f. holds s f ≡ true) (due s) → Pass due s s false
 settled due s a = record { steps = done; falls = λ e. absurd (false≢true e); quiet = λ e. (refl, a) }
 
 -- ---- shapes: what is known of two of them stays so

@@ -10,3 +10,4 @@ pub mod Joins
 pub mod OnlyOne
 pub mod Rounds
 pub mod Singles
+pub mod KeyLaws

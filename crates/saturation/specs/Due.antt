@@ -71,6 +71,9 @@ pub record ShapesFit (shapes : List ℕ) : Type 0 where
   pub others : (k : ℕ) → k < 30 → othersAt shapes k < 2 ^ variantLimit
   pub many : (k : ℕ) → k < 30 → manyAt shapes k ≤ 3
   pub part : (k p : ℕ) → k < 30 → p < 3 → partAt shapes k p < 96
+  -- shapes of one variant have equally many parts, and 0 stands past them
+  pub arity : (k i : ℕ) → k < 30 → i < 30 → kindAt shapes k ≡ kindAt shapes i → manyAt shapes k ≡ manyAt shapes i
+  pub past : (k p : ℕ) → k < 30 → p < 3 → manyAt shapes k ≤ p → partAt shapes k p ≡ 0
 
 -- ---- field reads
 

@@ -30,14 +30,14 @@ returns-3 c =
 
 returns-4 : tie.Need-returns-4
 returns-4 c =
-    let u = c .before .before .before in
+    let u = c .before .before in
     let b = u .before .before in
     let e = b .before .before in
     let a = e .before .args in
     closed-cyclic (a .shapes .now) (a .sorts .now) (a .full .now) (a .constants .now) (a .values .now) (a .kinds .now) (a .terms .now) (a .others .now) (a .many)
     (state (a .classes .now) (a .labels .now)) (e .empty-label .result) (e .empty-label .ensures) (b .before .if1 .left)
-    (b .broken-line .result) (b .broken-line .ensures) (u .before .if2 .left) (u .unlike-constants .result) (u .unlike-constants .ensures) (c .before .before .if3 .left) (c .rank-classes .result)
-    (c .rank-classes .ensures .0)
+    (b .broken-line .result) (b .broken-line .ensures) (u .before .if2 .left) (u .unlike-constants .result) (u .unlike-constants .ensures) (c .before .if3 .left) (c .is-cyclic .result)
+    (c .is-cyclic .ensures)
 
 pub is-closed-spec : {M : Type 1} → statement M
 is-closed-spec =

@@ -1,46 +1,15 @@
--- `pass_shapes` meets its contract. Invariant: the shapes so far are passed. Assumes nothing.
-use mathlib.Core.Logic.{⊎-elim, inl, inr}
-use Prim.Native.Nat.{_≤_, _-_}
-use native.Mathlib.Omega.{arith}
-use Rattle.classes.specs.Held.{Held, state}
-use Rattle.passes.specs.Pass.{Pass}
-use Rattle.passes.proofs.PassLaws.{all-done, none-yet, one-more, upTo}
-use Rattle.saturation.specs.Due.{shapeDue, shapesDue}
+-- `pass_shapes` meets its contract. Assumes nothing.
+use borrow.Author.Needs.{needs}
+use Rattle.classes.specs.Held.{state}
+use Rattle.saturation.proofs.KeyLaws.{no-keys}
 use Rattle.saturation.proofs.pass_shapes.Statement.{statement}
 use Rattle.saturation.proofs.pass_shapes.Tie as tie
 
-abbrev Inv-loop : tie.InvT-loop
-Inv-loop classes₀ labels₀ shapes changed₀ k₀ classes labels changed k = (k ≤ 30) × Pass (upTo (λ j x. shapeDue shapes x j) k) (state classes₀ labels₀) (state classes labels) changed × Held classes
-
-abbrev μ-loop : tie.MeasureT-loop
-μ-loop classes₀ labels₀ shapes changed₀ k₀ classes labels changed k = 30 - k
-
-loop-holds : tie.Need-loop-holds Inv-loop μ-loop
-loop-holds c = (omega arith, none-yet (λ j x. shapeDue (c .args .shapes .now) x j) _, c .pre .0)
-
-pass-shape-requires : tie.Need-pass-shape-requires Inv-loop μ-loop
-pass-shape-requires c κs = (omega arith, (c .before .before .before .loop .inv .2, c .before .before .before .before .pre .1))
-
-add-k : tie.Need-add-k Inv-loop μ-loop
-add-k c = omega arith
-
-loop-less : tie.Need-loop-less Inv-loop μ-loop
-loop-less c = omega arith
-
-loop-again : tie.Need-loop-again Inv-loop μ-loop
-loop-again c =
-    let a = c .before .before .before .before .before .before .args in
-    let l = c .before .before .before .before .before .loop in
-    (omega arith, one-more (λ j x. shapeDue (a .shapes .now) x j) (l .k) (l .changed) (c .before .pass-shape .result) (c .if1 .changed) (l .inv .1) (c .before .pass-shape .ensures .0) (⊎-elim (λ w. inl (w .0 .taken, w .1)) (λ w. inr (w .0 .left, w .1)) (c .if1 .came)), c .before .pass-shape .ensures .1)
-
-returns : tie.Need-returns Inv-loop μ-loop
-unfolding shapesDue
-returns c =
-    let a = c .before .before .args in
-    let l = c .before .loop in
-    (all-done (λ j x. shapeDue (a .shapes .now) x j) (l .k) 30 (omega arith) (omega arith) (l .inv .1), l .inv .2)
+key-shapes-requires : tie.Need-key-shapes-requires
+key-shapes-requires c κs =
+    let b = c .before .before .before .before in
+    let a = b .args in
+    (b .pre .0, (b .pre .1, no-keys (a .shapes .now) (state (a .classes .now) (a .labels .now))))
 
 pub pass-shapes-spec : {M : Type 1} → statement M
-pass-shapes-spec =
-    tie.close
-    (tie.spec Inv-loop μ-loop loop-holds pass-shape-requires add-k loop-less loop-again returns)
+pass-shapes-spec = tie.close (tie.spec key-shapes-requires (λ c κs. search needs) (λ c. search needs))
