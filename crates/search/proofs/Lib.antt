@@ -6,3 +6,4 @@ pub mod VisitLaws
 pub mod Decisions
 pub mod RootLaws
 pub mod Budgets
+pub mod TablesRead

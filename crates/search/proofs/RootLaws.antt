@@ -3,10 +3,10 @@
 use mathlib.Core.Path.{_≡_, refl, ap, sym, _∙_, subst}
 use mathlib.Core.Bool.{true, false, false≢true}
 use mathlib.Core.List.{List, [], _∷_, foldl}
-use Prim.Native.Nat.{ℕ, _≤_}
+use Prim.Native.Nat.{ℕ, zero, suc, _≤_, _<_}
 use native.Mathlib.Omega.{arith}
 use lib.Dec.{ltb}
-use lib.ListN.{length, replicate, length-replicate, List·getD-eq-default}
+use lib.ListN.{length, getD, replicate, length-replicate, List·getD-eq-default}
 use borrow.Author.Tests.{ltb-false, ltb-true}
 use Rattle.laws.specs.Lists.{from}
 use Rattle.laws.proofs.Bools.{by-test}
@@ -117,10 +117,17 @@ found tables budget r s classes labels p ep es h g ok is = h g (g .literals) ok 
 
 -- nothing is left of a search that is not open
 pub nothing-found : (tables : Tables) (budget : ℕ) (r : Outcome) (classes labels : List ℕ) → isOpenOutcome r ≡ false → Finds tables budget r classes labels
-    → Finds tables budget r (replicate 96 0) (replicate 96 0) × ClearedUnlessOpen r (replicate 96 0) (replicate 96 0)
+    → Finds tables budget r (replicate 96 0) (replicate 96 0) × (ClearedUnlessOpen r (replicate 96 0) (replicate 96 0) × Held (replicate 96 0))
 unfolding Finds ClearedUnlessOpen
-nothing-found tables budget r classes labels e h =
-    ((λ g ok is. (h g ok is .0, λ n q. absurd (false≢true (sym e ∙ ap isOpenOutcome q)))), λ q. (refl, refl))
+nothing-found tables budget r classes labels e h = (
+  (λ g ok is. (h g ok is .0, λ n q. absurd (false≢true (sym e ∙ ap isOpenOutcome q)))),
+  ((λ q. (refl, refl)), record { long = refl; there = λ i. zeros 96 i }),
+)
+  where
+    zeros : (n i : ℕ) → getD (replicate n 0) i 0 < 96
+    zeros zero i = omega arith
+    zeros (suc n) zero = omega arith
+    zeros (suc n) (suc i) = zeros n i
 
 pub is-found : (r : Outcome) (classes labels : List ℕ) → isOpenOutcome r ≡ true → ClearedUnlessOpen r classes labels
 unfolding ClearedUnlessOpen

@@ -144,6 +144,7 @@ pub fn search(
     requires { ⌜ GuardsTables tables ⌝ }
     ensures { λ r. ⌜ Finds tables budget r (now (classes .exit)) (now (labels .exit)) ⌝ }
     ensures { λ r. ⌜ ClearedUnlessOpen r (now (classes .exit)) (now (labels .exit)) ⌝ }
+    ensures { λ r. ⌜ Held (now (classes .exit)) ⌝ }
 {
     let p = problem::problem_of(tables);
     let shapes = p.shapes;

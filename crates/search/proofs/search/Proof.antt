@@ -39,7 +39,7 @@ returns-2 c =
     let a = c .before .before .before .before .before .before .before .before .before .before .before .before .before .before .before .before .before .before .before .before .before .before .before .before .before .before .before .before .before .before .before .before .before .before .before .before .before .before .before .before .before .args in
     let gt = c .before .before .before .before .before .before .before .before .before .before .before .before .before .before .before .before .before .before .before .before .before .before .before .before .before .before .before .before .before .before .before .before .before .before .before .before .before .before .before .before .before .pre in
     let p = c .before .before .before .before .before .before .before .before .before .before .before .before .before .before .before .before .before .before .before .before .before .before .before .before .before .before .before .before .before .before .before .before .before .before .before .before .before .before .before .before .problem-of in
-    (found (a .tables) (a .budget) (c .before .before .visit .result) (state (c .before .before .before .before .before .before .before .before .before .before .before .before .before .before .before .begin .last .0) (c .before .before .before .before .before .before .before .before .before .before .before .before .before .before .before .begin .last .1 .0)) (c .before .before .visit .last .0) (c .before .before .visit .last .1 .0) (p .result) (p .ensures) (c .before .before .before .before .before .before .before .before .before .before .before .before .before .before .before .begin .ensures .0) (c .before .before .visit .ensures .0), is-found (c .before .before .visit .result) (c .before .before .visit .last .0) (c .before .before .visit .last .1 .0) (sym (c .before .is-open .ensures) ∙ not-false _ (c .if1 .left)))
+    (found (a .tables) (a .budget) (c .before .before .visit .result) (state (c .before .before .before .before .before .before .before .before .before .before .before .before .before .before .before .begin .last .0) (c .before .before .before .before .before .before .before .before .before .before .before .before .before .before .before .begin .last .1 .0)) (c .before .before .visit .last .0) (c .before .before .visit .last .1 .0) (p .result) (p .ensures) (c .before .before .before .before .before .before .before .before .before .before .before .before .before .before .before .begin .ensures .0) (c .before .before .visit .ensures .0), (is-found (c .before .before .visit .result) (c .before .before .visit .last .0) (c .before .before .visit .last .1 .0) (sym (c .before .is-open .ensures) ∙ not-false _ (c .if1 .left)), c .before .before .visit .ensures .1))
 
 pub search-spec : {M : Type 1} → statement M
 search-spec =

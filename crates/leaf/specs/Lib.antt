@@ -1,0 +1,3 @@
+pub mod Leaf
+pub mod Picture
+pub mod Sheet

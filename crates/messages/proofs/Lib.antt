@@ -1,0 +1,7 @@
+pub mod OpenLaws
+pub mod RowParts
+pub mod DrawLaws
+pub mod PlaceLaws
+pub mod LeafLaws
+pub mod RowLaws
+pub mod CallLaws

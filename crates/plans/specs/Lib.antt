@@ -1,0 +1,3 @@
+pub mod Chosen
+pub mod Fresh
+pub mod Plans
