@@ -21,6 +21,8 @@ usage: oracle answer FILE [--budget N]        the answer to a guard file
                                               vectors, and DIR/stdout, the desk's tables
                                               of each in a line
        oracle walks [--check] VECTORS DIR     the same, with the answer to each in a line
+       oracle answers [--check] VECTORS DIR   writes or checks DIR/stdin, and checks
+                                              DIR/stdout, the whole answers of the desk
 FILE and OUTPUT may be - for standard input. N is 1000000 if not given.";
 
 /// Why the program fails.
@@ -66,6 +68,8 @@ fn run(words: &[&str]) -> Result<(), Failure> {
         ["tables", vectors, dir] => write_run(vectors, dir, tables::summaries),
         ["walks", "--check", vectors, dir] => check_run(vectors, dir, vectors::answers),
         ["walks", vectors, dir] => write_run(vectors, dir, vectors::answers),
+        ["answers", "--check", vectors, dir] => check_answers(vectors, dir),
+        ["answers", vectors, dir] => write_input(vectors, dir).and_then(said_written),
         _ => Err(Failure::Usage(format!(
             "what is asked isn't clear\n{USAGE}"
         ))),
@@ -162,16 +166,26 @@ fn pack_command(path: &str, out: &str) -> Result<(), Failure> {
 /// The lines that a program of the desk prints about the vectors.
 type Lines = fn(&[Vector]) -> String;
 
-fn write_run(path: &str, dir: &str, lines: Lines) -> Result<(), Failure> {
+/// Writes the packed vectors.
+fn write_input(path: &str, dir: &str) -> Result<Vec<Vector>, Failure> {
     let vectors = load_vectors(path)?;
     let packed = vectors::pack(&vectors).map_err(Failure::Wrong)?;
-    let dir = Path::new(dir);
-    store(&dir.join("stdin"), &packed)?;
-    store(&dir.join("stdout"), lines(&vectors).as_bytes())?;
+    store(&Path::new(dir).join("stdin"), &packed)?;
+    Ok(vectors)
+}
+
+fn said_written(vectors: Vec<Vector>) -> Result<(), Failure> {
     print(&format!("a run of {} vectors written\n", vectors.len()))
 }
 
-fn check_run(path: &str, dir: &str, lines: Lines) -> Result<(), Failure> {
+fn write_run(path: &str, dir: &str, lines: Lines) -> Result<(), Failure> {
+    let vectors = write_input(path, dir)?;
+    store(&Path::new(dir).join("stdout"), lines(&vectors).as_bytes())?;
+    said_written(vectors)
+}
+
+/// The vectors, if DIR/stdin has them packed, and the path and text of DIR/stdout.
+fn load_run(path: &str, dir: &str) -> Result<(Vec<Vector>, String, String), Failure> {
     let vectors = load_vectors(path)?;
     let packed = vectors::pack(&vectors).map_err(Failure::Wrong)?;
     let stdin = Path::new(dir).join("stdin");
@@ -179,13 +193,27 @@ fn check_run(path: &str, dir: &str, lines: Lines) -> Result<(), Failure> {
         let why = format!("{} isn't the packed vectors", stdin.display());
         return Err(Failure::Wrong(why));
     }
-    let stdout = Path::new(dir).join("stdout");
-    let found = load_text(&stdout.to_string_lossy())?;
+    let stdout = Path::new(dir).join("stdout").to_string_lossy().into_owned();
+    let found = load_text(&stdout)?;
+    Ok((vectors, stdout, found))
+}
+
+fn check_run(path: &str, dir: &str, lines: Lines) -> Result<(), Failure> {
+    let (vectors, stdout, found) = load_run(path, dir)?;
     match vectors::first_difference(&found, &lines(&vectors)) {
         None => print(&format!("ok, a run of {} vectors\n", vectors.len())),
-        Some(difference) => Err(Failure::Wrong(format!(
-            "{}: {difference}",
-            stdout.display()
-        ))),
+        Some(difference) => Err(Failure::Wrong(format!("{stdout}: {difference}"))),
     }
+}
+
+fn check_answers(path: &str, dir: &str) -> Result<(), Failure> {
+    let (vectors, stdout, found) = load_run(path, dir)?;
+    vectors::check_answers(&vectors, &found)
+        .map_err(|why| Failure::Wrong(format!("{stdout}: {why}")))?;
+    let answers = vectors.iter().map(|vector| &vector.answer);
+    let sat = answers.filter(|answer| answer.starts_with("SAT ")).count();
+    print(&format!(
+        "ok, answers to {} vectors, {sat} of them SAT\n",
+        vectors.len()
+    ))
 }

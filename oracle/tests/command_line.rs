@@ -75,7 +75,7 @@ fn checks_printed_answers() {
 
 #[test]
 fn wrong_use_is_said() {
-    let cases: [&[&str]; 18] = [
+    let cases: [&[&str]; 20] = [
         &[],
         &["nonsense"],
         &["answer"],
@@ -94,6 +94,8 @@ fn wrong_use_is_said() {
         &["tables", "--check", "no such file", "."],
         &["walks", "no such file", "."],
         &["walks", "--check", "no such file", "."],
+        &["answers", "no such file", "."],
+        &["answers", "--check", "no such file", "."],
     ];
     for words in cases {
         let output = oracle(words, &[0, 0, 0]);
@@ -173,4 +175,70 @@ fn written_and_checked(command: &str, lines: &str) {
         }
         fs::write(dir.join(name), right).expect("written");
     }
+}
+
+#[test]
+fn answers_are_checked_in_full() {
+    let dir = scratch("answers");
+    let vectors = dir.join("vectors.txt");
+    let hex: String = C.iter().map(|byte| format!("{byte:02x}")).collect();
+    let text = format!("x\t3\t{hex}\tSAT 3\ny\t0\t-\tREFUSED 2\nz\t2\t{hex}\tSPENT 2\n");
+    fs::write(&vectors, text).expect("written");
+    let (vectors, place) = (vectors.display().to_string(), dir.display().to_string());
+    let write = oracle(&["answers", &vectors, &place], &[]);
+    assert_eq!(write.status.code(), Some(0));
+    let check = |output: &str| {
+        fs::write(dir.join("stdout"), output).expect("written");
+        oracle(&["answers", "--check", &vectors, &place], &[])
+    };
+    let right = "SAT 3\nrow 0 type 1 variant 0\nterm 0 row 0\nterm 1 row 0\nREFUSED 2\nSPENT 2\n";
+    let output = check(right);
+    assert_eq!(
+        printed(&output),
+        "ok, answers to 3 vectors, 1 of them SAT\n"
+    );
+    assert_eq!(output.status.code(), Some(0));
+    for (old, new, why) in [
+        ("SAT 3", "SAT 2", "x: line one is \"SAT 2\", expected SAT 3"),
+        (
+            "variant 0",
+            "variant 1",
+            "x: row 0: part 0 isn't a lower row",
+        ),
+        (
+            "type 1 variant 0",
+            "type 0 number 0",
+            "x: term 0 is of type 1",
+        ),
+        (
+            "term 1 row 0\n",
+            "",
+            "x: 1 terms are printed, the guard has 2",
+        ),
+        (
+            "REFUSED 2\n",
+            "dirty\nREFUSED 2\n",
+            "y: line one is \"dirty\"",
+        ),
+        ("REFUSED 2\n", "", "y: line one is \"SPENT 2\""),
+        (
+            "REFUSED 2\n",
+            "REFUSED 2\nrow 0\n",
+            "y: something follows after",
+        ),
+        ("SPENT 2\n", "SPENT 2", "z: line one doesn't end"),
+        ("SPENT 2\n", "", "z: line one doesn't end, or is missing"),
+        (
+            "SPENT 2\n",
+            "SPENT 2\ndirty\n",
+            "\"dirty\" follows after the last",
+        ),
+    ] {
+        let output = check(&right.replacen(old, new, 1));
+        let said = String::from_utf8_lossy(&output.stderr).into_owned();
+        assert_eq!(output.status.code(), Some(1), "{new:?}");
+        assert!(said.contains(why), "{said}");
+    }
+    fs::write(dir.join("stdin"), [255, 255]).expect("written");
+    assert_eq!(check(right).status.code(), Some(1));
 }

@@ -1,6 +1,5 @@
 // Reads packed guard files from standard input, and prints one line for each: the question that refused it, or the sizes of
-// its tables and a sum over all their entries. Packed: a 2-byte length, the file, and a 4-byte budget, low byte first. A
-// length above 2,048 ends the run, as 65535 does after the last file.
+// its tables and a sum over all their entries.
 use reader::Tables;
 use siblings::Siblings;
 use tables::LiteralTable;
@@ -124,47 +123,20 @@ fn print_read(t: Tables) {
     print_tables(types.many, rows.many, literals.many, mix_tables(t));
 }
 
-// ---- the files
-
-fn two_bytes(low: u8, high: u8) -> usize {
-    low as usize + high as usize * 256
-}
-
-// The length of the next file; 65535 after the last, or where the input ends.
-fn next_length() -> usize {
-    let mut two = [0u8; 2];
-    let n = io::read_full(0, &mut two);
-    if n < 2 {
-        return 65535;
-    }
-    two_bytes(two[0], two[1])
-}
-
-fn skip_budget() {
-    let mut four = [0u8; 4];
-    io::read_full(0, &mut four);
-}
-
-// Reads a file as long as `part`, and prints its line.
-fn read_file(part: &mut [u8]) {
-    let n = io::read_full(0, part);
-    print_read(reader::read(&part[..n], 6, 24, 32));
-}
-
-// Prints the line of a file of this length and skips its budget; or answers false, if the length is too large.
-fn next_file(buffer: &mut [u8], length: usize) -> bool {
-    if buffer.len() < length {
+// Answers whether there was a file.
+fn read_next(buffer: &mut [u8]) -> bool {
+    let n = packed::next_file(buffer);
+    if buffer.len() < n {
         return false;
     }
-    read_file(&mut buffer[..length]);
-    skip_budget();
+    print_read(reader::read(&buffer[..n], 6, 24, 32));
+    packed::next_budget();
     true
 }
 
-// Answers whether there was a file.
 fn one_file() -> bool {
     let mut buffer = [0u8; 2048];
-    next_file(&mut buffer, next_length())
+    read_next(&mut buffer)
 }
 
 // Nothing says that the input ends, so the files are counted.

@@ -10,6 +10,7 @@ mod walks;
 use crate::answer::{answer, Answer};
 use crate::encode::Draft;
 use crate::guard::Limits;
+use crate::text;
 
 /// The budget of the program `guarddesk`.
 pub const USUAL_BUDGET: u32 = 1_000_000;
@@ -101,6 +102,21 @@ pub fn answers(vectors: &[Vector]) -> String {
         .iter()
         .map(|vector| vector.answer.clone() + "\n")
         .collect()
+}
+
+/// Checks printed answers to all vectors, one after the other, in full.
+pub fn check_answers(vectors: &[Vector], output: &str) -> Result<(), String> {
+    let mut rest = output;
+    for vector in vectors {
+        let (first, others) = text::split_first(rest);
+        text::check_known(&vector.file, first, &vector.answer, Limits::BASE)
+            .map_err(|why| format!("{}: {why}", vector.name))?;
+        rest = others;
+    }
+    match rest.lines().next() {
+        None => Ok(()),
+        Some(line) => Err(format!("{line:?} follows after the last answer")),
+    }
 }
 
 /// "For each vector a 2-byte length, the bytes, a 4-byte budget; ended by a

@@ -1,0 +1,95 @@
+-- What the contract of `decide` says of an accepted file: SPENT exactly below the node count, the node count in every
+-- verdict, at most 2 × W − 1 of them, and a verdict that is true. Each follows from the contract alone. Assumes nothing.
+use mathlib.Core.Path.{_≡_, refl, ap, sym, _∙_}
+use mathlib.Core.List.{List}
+use mathlib.Core.Logic.{_↔_}
+use Prim.Native.Nat.{ℕ, _*_, _-_, _≤_, _<_}
+use native.Mathlib.Omega.{arith}
+use lib.IntN.{ℤ}
+use lib.ListN.{length}
+use Rattle.guard.specs.Answer.{Outcome.refusal, Outcome.sat, Outcome.spent, Outcome.unsat, afterQuestions, outcome, outcomeOf, questions, rowsOf, verdict, withBudget}
+use Rattle.guard.specs.Guard.{Guard}
+use Rattle.guard.specs.Limits.{base}
+use Rattle.guard.specs.Meaning.{Satisfiable}
+use Rattle.guard.specs.Number.{Parsed, Parsed.accepted, Parsed.refused}
+use Rattle.guard.specs.Search.{Visits, Visits.closed, Visits.opened, W, nodeCount, searchOf, visits}
+use Rattle.guard.specs.Shown.{shown}
+use Rattle.guard.specs.declared.Answer.{Answer}
+use Rattle.guard.proofs.AnswerLaws.{enough, spent-exactly, too-few}
+use Rattle.guard.proofs.Claims.{Accepts, accepts-all, base-supported}
+use Rattle.theory.proofs.Theorems.{count-at-most, open-exactly}
+use Rattle.decide.specs.Decides.{Decides}
+use Rattle.decide.proofs.Decided.{never-refused, questions-file, sat-opened, unsat-closed}
+
+module _ (bytes : List ℕ) (budget : ℕ) (rows places : List ℤ) (r : Answer) (rows′ places′ : List ℤ) (d : Decides base bytes budget rows places r rows′ places′) where
+  -- a refused call says the question, and the other way round
+  pub refused-exactly : (q : ℕ) → (outcomeOf r ≡ refusal q) ↔ (questions base bytes (length rows) (length places) ≡ refused q)
+  unfolding outcome
+  refused-exactly q = (λ e. go (questions base bytes (length rows) (length places)) refl (sym (d .says) ∙ e), λ e. d .says ∙ ap (afterQuestions budget) e)
+    where
+      go : (p : Parsed Guard) → questions base bytes (length rows) (length places) ≡ p → afterQuestions budget p ≡ refusal q → questions base bytes (length rows) (length places) ≡ refused q
+      go (refused k) e h = let s : k ≡ q = cc in e ∙ ap (λ (i : ℕ). refused i) s
+      go (accepted g rest) e h = absurd (never-refused budget (searchOf g) q h)
+
+  -- ---- an accepted file
+
+  module _ (g : Guard) (rest : List ℕ) (taken : questions base bytes (length rows) (length places) ≡ accepted g rest) where
+    accepts : Accepts base bytes g
+    accepts = accepts-all base bytes g rest base-supported (questions-file bytes (length rows) (length places) g rest taken)
+
+    answer-is : outcomeOf r ≡ withBudget budget (searchOf g)
+    unfolding outcome
+    answer-is = d .says ∙ ap (afterQuestions budget) taken
+
+    -- "SPENT is given precisely if the walk would visit more nodes than the budget."
+    pub spent-below-count : ((b : ℕ) × (outcomeOf r ≡ spent b)) ↔ (budget < nodeCount g)
+    spent-below-count = (λ p. spent-exactly budget (searchOf g) .0 (p .0, sym answer-is ∙ p .1), λ h. (budget, answer-is ∙ too-few budget (searchOf g) h))
+
+    -- "SPENT carries the budget"
+    pub spent-carries-budget : (b : ℕ) → outcomeOf r ≡ spent b → b ≡ budget
+    spent-carries-budget b e =
+        let s : outcomeOf r ≡ spent budget = answer-is ∙ too-few budget (searchOf g) (spent-below-count .0 (b, e)) in
+        let t : spent b ≡ spent budget = sym e ∙ s in cc
+
+    -- with a budget of the node count or more the answer is the walk's verdict, whatever the budget and the buffers
+    pub verdict-from-count : nodeCount g ≤ budget → outcomeOf r ≡ verdict (searchOf g)
+    verdict-from-count h = answer-is ∙ enough budget (searchOf g) h
+
+    -- "SAT and UNSAT carry it": the node count
+    pub sat-carries-count : (n : ℕ) → outcomeOf r ≡ sat n → (n ≡ nodeCount g) × (n ≤ budget)
+    sat-carries-count n e = let (w, l) = sat-opened budget (searchOf g) n (sym answer-is ∙ e) in let c : nodeCount g ≡ n = ap visits w in (sym c, omega (arith, c, l))
+
+    pub unsat-carries-count : (n : ℕ) → outcomeOf r ≡ unsat n → (n ≡ nodeCount g) × (n ≤ budget)
+    unsat-carries-count n e = let (w, l) = unsat-closed budget (searchOf g) n (sym answer-is ∙ e) in let c : nodeCount g ≡ n = ap visits w in (sym c, omega (arith, c, l))
+
+    -- "at most 2 × W − 1 nodes", so a budget of that many always brings a verdict
+    pub count-at-most-twice-W : nodeCount g ≤ 2 * W g - 1
+    count-at-most-twice-W = count-at-most base bytes g accepts
+
+    pub enough-budget : 2 * W g - 1 ≤ budget → outcomeOf r ≡ verdict (searchOf g)
+    enough-budget h = verdict-from-count (omega (arith, count-at-most-twice-W))
+
+    -- ---- the verdict is true
+
+    pub sat-satisfiable : (n : ℕ) → outcomeOf r ≡ sat n → Satisfiable g
+    sat-satisfiable n e = record { assignment = shown g (rowsOf r) rows′ places′; holds = d .shown g rest taken n e .holds }
+
+    pub sat-exactly : nodeCount g ≤ budget → ((n : ℕ) × (outcomeOf r ≡ sat n)) ↔ Satisfiable g
+    sat-exactly h =
+        (λ p. sat-satisfiable (p .0) (p .1), λ s. let (n, w) = open-exactly base bytes g accepts .1 s in (n, verdict-from-count h ∙ ap verdict w))
+
+    pub unsat-exactly : nodeCount g ≤ budget → ((n : ℕ) × (outcomeOf r ≡ unsat n)) ↔ (¬ Satisfiable g)
+    unsat-exactly h = (λ p. d .dead g rest taken (p .0) (p .1), λ dead. go (searchOf g) refl dead)
+      where
+        go : (w : Visits) → searchOf g ≡ w → (¬ Satisfiable g) → (n : ℕ) × (outcomeOf r ≡ unsat n)
+        go (opened n) e dead = absurd (dead (sat-satisfiable n (verdict-from-count h ∙ ap verdict e)))
+        go (closed n) e dead = (n, verdict-from-count h ∙ ap verdict e)
+
+-- "A file's node count and its walk's verdict belong to the file alone, not to the budget or the buffers": two calls on one
+-- accepted file, neither SPENT, say the same
+pub same-verdict : (bytes : List ℕ) (g : Guard) (rest : List ℕ)
+    → (budget : ℕ) (rows places : List ℤ) (r : Answer) (rows′ places′ : List ℤ) → Decides base bytes budget rows places r rows′ places′ → questions base bytes (length rows) (length places) ≡ accepted g rest
+    → (budget₂ : ℕ) (rows₂ places₂ : List ℤ) (r₂ : Answer) (rows₂′ places₂′ : List ℤ) → Decides base bytes budget₂ rows₂ places₂ r₂ rows₂′ places₂′ → questions base bytes (length rows₂) (length places₂) ≡ accepted g rest
+    → nodeCount g ≤ budget → nodeCount g ≤ budget₂ → outcomeOf r ≡ outcomeOf r₂
+same-verdict bytes g rest budget rows places r rows′ places′ d q budget₂ rows₂ places₂ r₂ rows₂′ places₂′ d₂ q₂ h h₂ =
+    verdict-from-count bytes budget rows places r rows′ places′ d g rest q h ∙ sym (verdict-from-count bytes budget₂ rows₂ places₂ r₂ rows₂′ places₂′ d₂ g rest q₂ h₂)

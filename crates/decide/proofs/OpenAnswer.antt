@@ -1,0 +1,92 @@
+-- The answer at an open node: what is drawn, with what lies past it cleared, shows messages. Assumes nothing.
+use mathlib.Core.Path.{_≡_, refl, ap, sym, subst, _∙_}
+use mathlib.Core.List.{List, _++_}
+use Prim.Native.Nat.{ℕ, _*_, _-_, _≤_}
+use native.Mathlib.Omega.{arith}
+use lib.IntN.{ℤ, pos}
+use lib.ListN.{length, take, drop, replicate}
+use Rattle.guard.specs.Answer.{outcomeOf, rowsOf}
+use Rattle.guard.specs.Closure.{State}
+use Rattle.guard.specs.Guard.{Guard}
+use Rattle.guard.specs.Limits.{base}
+use Rattle.guard.specs.Shown.{Shows}
+use Rattle.guard.specs.declared.Answer.the-variants.{Sat}
+use Rattle.tables.specs.Layout.{rowTable}
+use Rattle.reader.specs.Reader.{guardTables}
+use Rattle.reader.specs.declared.Tables.{Tables}
+use Rattle.search.specs.Nodes.{Accepted, OpenLeaf}
+use Rattle.messages.specs.Messages.{Draws, DrawsFor, OpenTables}
+use Rattle.decide.specs.Parts.{AnswersOpen}
+use Rattle.decide.proofs.Cleared.{part-cleared, zero-back, zero-front, zero-length, zeroFrom}
+use Rattle.decide.proofs.Drawn.{drawn-shows}
+
+table-terms : (g : Guard) → guardTables g .rows .many ≡ length (g .rows)
+unfolding guardTables rowTable
+table-terms g = refl
+
+accepted-terms : (g : Guard) → Accepted g → length (g .rows) ≤ 24
+accepted-terms g a = omega (arith, a .wellFormed .termCount, a .supported .terms)
+
+module _ (tables : Tables) (s : State) (rows places : List ℤ) (n : ℕ) (rows₁ places₁ : List ℤ) (draws : DrawsFor tables s rows places n rows₁ places₁) (found : OpenTables tables s)
+    (roomRows : 16384 ≤ length rows) (roomPlaces : 24 ≤ length places) where
+  drawn-of : (g : Guard) → Accepted g → tables ≡ guardTables g → OpenLeaf g s → Draws g n rows places rows₁ places₁
+  unfolding DrawsFor
+  drawn-of = draws
+
+  drawn : Draws (found .guard) n rows places rows₁ places₁
+  drawn = drawn-of (found .guard) (found .accepted) (found .is) (found .leaf)
+
+  terms-are : (g : Guard) → tables ≡ guardTables g → tables .rows .many ≡ length (g .rows)
+  terms-are g is = ap (λ (t : Tables). t .rows .many) is ∙ table-terms g
+
+  -- ---- what is drawn lies within the buffers
+
+  few-terms : tables .rows .many ≤ 24
+  few-terms = omega (arith, terms-are (found .guard) (found .is), accepted-terms (found .guard) (found .accepted))
+
+  pub drawn-fits : (n ≤ 4096) × (tables .rows .many ≤ 24) × (16384 ≤ length rows₁) × (24 ≤ length places₁)
+  drawn-fits = (drawn .few, few-terms, omega (arith, drawn .longRows, roomRows), omega (arith, drawn .longPlaces, roomPlaces))
+
+  rows-within : 4 * n ≤ length rows₁
+  rows-within = omega (arith, drawn-fits)
+
+  terms-within : tables .rows .many ≤ length places₁
+  terms-within = omega (arith, drawn-fits)
+
+  -- ---- the answer
+
+  abbrev shownRows : List ℤ
+  shownRows = zeroFrom (4 * n) rows₁
+
+  abbrev shownPlaces : List ℤ
+  shownPlaces = zeroFrom (tables .rows .many) places₁
+
+  shows : (g : Guard) → Accepted g → tables ≡ guardTables g → OpenLeaf g s → Shows base g n shownRows shownPlaces
+  shows g a is leaf =
+      let many : tables .rows .many ≡ length (g .rows) = terms-are g is in
+      drawn-shows g n rows places rows₁ places₁ shownRows shownPlaces (drawn-of g a is leaf) (zero-front (4 * n) rows₁ rows-within)
+      (subst (λ (k : ℕ). take k shownPlaces ≡ take k places₁) many (zero-front (tables .rows .many) places₁ terms-within))
+      (zero-back (4 * n) rows₁ rows-within)
+      (subst (λ (k : ℕ). drop k shownPlaces ≡ replicate (length shownPlaces - k) (pos 0)) many (zero-back (tables .rows .many) places₁ terms-within))
+
+  open-zeroed : (nodes : ℕ) → AnswersOpen tables s nodes rows places (Sat nodes n) shownRows shownPlaces
+  unfolding outcomeOf rowsOf
+  open-zeroed nodes =
+      record {
+        says = refl;
+        longRows = zero-length (4 * n) rows₁ rows-within ∙ drawn .longRows;
+        longPlaces = zero-length (tables .rows .many) places₁ terms-within ∙ drawn .longPlaces;
+        shown = shows;
+      }
+
+  -- the parts past the last row and the last place were lent, and came back as zeros
+  module _ (nodes : ℕ) (ys zs : List ℤ) (rowsCleared : ys ≡ replicate (length (take (length rows₁ - 4 * n) (drop (4 * n) rows₁))) (pos 0))
+      (placesCleared : zs ≡ replicate (length (take (length places₁ - tables .rows .many) (drop (tables .rows .many) places₁))) (pos 0)) where
+    abbrev Answered : List ℤ → List ℤ → Type 0
+    Answered = AnswersOpen tables s nodes rows places (Sat nodes n)
+
+    pub open-answered : Answered (take (4 * n) rows₁ ++ (ys ++ drop (length rows₁ - 4 * n) (drop (4 * n) rows₁)))
+        (take (tables .rows .many) places₁ ++ (zs ++ drop (length places₁ - tables .rows .many) (drop (tables .rows .many) places₁)))
+    open-answered =
+        subst (λ (rs : List ℤ). Answered rs (take (tables .rows .many) places₁ ++ (zs ++ drop (length places₁ - tables .rows .many) (drop (tables .rows .many) places₁))))
+        (sym (part-cleared (4 * n) rows₁ ys rowsCleared)) (subst (Answered shownRows) (sym (part-cleared (tables .rows .many) places₁ zs placesCleared)) (open-zeroed nodes))
