@@ -1,0 +1,60 @@
+-- What a caller may take from the first number alone, for a file that is accepted: 1, and the buffers show messages that
+-- make the guard hold; 2, and no messages do; 3, and the search takes more nodes than the budget. Each follows from the
+-- contract. Assumes nothing.
+use mathlib.Core.Path.{_≡_, refl, ap, sym, subst, _∙_}
+use mathlib.Core.List.{List, [], _∷_, _++_}
+use Prim.Native.Nat.{ℕ, _<_}
+use native.Mathlib.Omega.{arith}
+use lib.IntN.{ℤ}
+use lib.ListN.{length, drop, getD}
+use Rattle.guard.specs.Answer.{Outcome.sat, Outcome.spent, Outcome.unsat, outcomeOf, questions, rowsOf}
+use Rattle.guard.specs.Guard.{Guard}
+use Rattle.guard.specs.Limits.{base}
+use Rattle.guard.specs.Meaning.{Satisfiable}
+use Rattle.guard.specs.Number.{Parsed.accepted}
+use Rattle.guard.specs.Search.{nodeCount}
+use Rattle.guard.specs.Shown.{Shows}
+use Rattle.guard.specs.declared.Answer.{Answer}
+use Rattle.guard.specs.declared.Answer.the-variants.{Refused, Sat, Unsat, Spent}
+use Rattle.decide.proofs.Corollaries.{spent-below-count}
+use Rattle.desklink.specs.Links.{Answers, answerNumbers}
+
+-- ---- the answer, from its first number
+
+first-sat : (a : Answer) (rest : List ℕ) → getD (answerNumbers a ++ rest) 0 0 ≡ 1 → (n : ℕ) × ((outcomeOf a ≡ sat n) × (getD (answerNumbers a ++ rest) 2 0 ≡ rowsOf a))
+unfolding answerNumbers outcomeOf rowsOf
+first-sat (Refused q) rest e = absurd (omega (arith, e))
+first-sat (Sat n r) rest e = (n, (refl, refl))
+first-sat (Unsat n) rest e = absurd (omega (arith, e))
+first-sat (Spent b) rest e = absurd (omega (arith, e))
+
+first-unsat : (a : Answer) (rest : List ℕ) → getD (answerNumbers a ++ rest) 0 0 ≡ 2 → (n : ℕ) × (outcomeOf a ≡ unsat n)
+unfolding answerNumbers outcomeOf
+first-unsat (Refused q) rest e = absurd (omega (arith, e))
+first-unsat (Sat n r) rest e = absurd (omega (arith, e))
+first-unsat (Unsat n) rest e = (n, refl)
+first-unsat (Spent b) rest e = absurd (omega (arith, e))
+
+first-spent : (a : Answer) (rest : List ℕ) → getD (answerNumbers a ++ rest) 0 0 ≡ 3 → (b : ℕ) × (outcomeOf a ≡ spent b)
+unfolding answerNumbers outcomeOf
+first-spent (Refused q) rest e = absurd (omega (arith, e))
+first-spent (Sat n r) rest e = absurd (omega (arith, e))
+first-spent (Unsat n) rest e = absurd (omega (arith, e))
+first-spent (Spent b) rest e = (b, refl)
+
+-- ---- an accepted file
+
+module _ (bytes : List ℕ) (budget : ℕ) (rows places : List ℤ) (numbers : List ℕ) (rows′ places′ : List ℤ) (numbers′ : List ℕ) (a : Answers base bytes budget rows places numbers rows′ places′ numbers′) (g : Guard) (rest : List ℕ) (taken : questions base bytes (length rows) (length places) ≡ accepted g rest) where
+  number : (i : ℕ) → getD numbers′ i 0 ≡ getD (answerNumbers (a .answer) ++ drop 3 numbers) i 0
+  number i = ap (λ (xs : List ℕ). getD xs i 0) (a .told)
+
+  pub told-sat : getD numbers′ 0 0 ≡ 1 → Shows base g (getD numbers′ 2 0) rows′ places′
+  told-sat e =
+      let (n, (s, many)) = first-sat (a .answer) (drop 3 numbers) (sym (number 0) ∙ e) in
+      subst (λ (k : ℕ). Shows base g k rows′ places′) (sym (number 2 ∙ many)) (a .decided .shown g rest taken n s)
+
+  pub told-unsat : getD numbers′ 0 0 ≡ 2 → ¬ Satisfiable g
+  told-unsat e = let (n, s) = first-unsat (a .answer) (drop 3 numbers) (sym (number 0) ∙ e) in a .decided .dead g rest taken n s
+
+  pub told-spent : getD numbers′ 0 0 ≡ 3 → budget < nodeCount g
+  told-spent e = spent-below-count bytes budget rows places (a .answer) rows′ places′ (a .decided) g rest taken .0 (first-spent (a .answer) (drop 3 numbers) (sym (number 0) ∙ e))

@@ -1,0 +1,20 @@
+-- The two ends of the call: too short an answer buffer, and an answer. Assumes nothing.
+use mathlib.Core.Path.{_≡_, refl}
+use mathlib.Core.List.{List, _++_}
+use Prim.Native.Nat.{ℕ, _≤_, _<_}
+use native.Mathlib.Omega.{arith}
+use lib.IntN.{ℤ}
+use lib.ListN.{length, drop}
+use Rattle.guard.specs.Limits.{base}
+use Rattle.guard.specs.declared.Answer.{Answer}
+use Rattle.decide.specs.Decides.{Decides}
+use Rattle.desklink.specs.Links.{Answers, Links, answerNumbers}
+
+pub too-short : (bytes : List ℕ) (budget : ℕ) (rows places : List ℤ) (numbers : List ℕ) → length numbers < 3 → Links base bytes budget rows places numbers 1 rows places numbers
+too-short bytes budget rows places numbers h = record { short = λ _. (refl, (refl, (refl, refl))); enough = λ l. absurd (omega (arith, h, l)) }
+
+pub answered : (bytes : List ℕ) (budget : ℕ) (rows places : List ℤ) (numbers : List ℕ) (r : Answer) (rows′ places′ : List ℤ) (numbers′ : List ℕ)
+    → ¬ (length numbers < 3) → Decides base bytes budget rows places r rows′ places′ → numbers′ ≡ answerNumbers r ++ drop 3 numbers
+    → Links base bytes budget rows places numbers 0 rows′ places′ numbers′
+answered bytes budget rows places numbers r rows′ places′ numbers′ h d told =
+    record { short = λ l. absurd (h l); enough = λ _. (refl, record { answer = r; decided = d; told = told }) }

@@ -1,0 +1,43 @@
+-- What a program in another language is given by its call: the answer as three numbers, and a return code. Assumes nothing:
+-- definitions.
+use mathlib.Core.Path.{_≡_}
+use mathlib.Core.List.{List, [], _∷_, _++_}
+use Prim.Native.Nat.{ℕ, _≤_, _<_}
+use lib.IntN.{ℤ}
+use lib.ListN.{length, drop}
+use Rattle.guard.specs.Limits.{Limits}
+use Rattle.guard.specs.declared.Answer.{Answer}
+use Rattle.guard.specs.declared.Answer.the-variants.{Refused, Sat, Unsat, Spent}
+use Rattle.decide.specs.Decides.{Decides}
+
+-- the numbers of an answer: its verdict (0 REFUSED, 1 SAT, 2 UNSAT, 3 SPENT); the question that got a no, the node count
+-- or the budget; and how many rows are shown, none but after SAT
+unfoldable pub answerNumbers : Answer → List ℕ
+answerNumbers (Refused q) = 0 ∷ q ∷ 0 ∷ []
+answerNumbers (Sat n r) = 1 ∷ n ∷ r ∷ []
+answerNumbers (Unsat n) = 2 ∷ n ∷ 0 ∷ []
+answerNumbers (Spent b) = 3 ∷ b ∷ 0 ∷ []
+
+-- how many numbers an answer has
+abbrev pub answerLength : ℕ
+answerLength = 3
+
+-- return codes: the call was answered; the answer buffer is too short
+abbrev pub answeredCode : ℕ
+answeredCode = 0
+
+abbrev pub shortCode : ℕ
+shortCode = 1
+
+-- a call that was answered: what `decide` says of an answer and both buffers, and that answer's numbers in front of the
+-- answer buffer, whose other numbers stay
+pub record Answers (limits : Limits) (bytes : List ℕ) (budget : ℕ) (rows places : List ℤ) (numbers : List ℕ) (rows′ places′ : List ℤ) (numbers′ : List ℕ) : Type 0 where
+  pub answer : Answer
+  pub decided : Decides limits bytes budget rows places answer rows′ places′
+  pub told : numbers′ ≡ answerNumbers answer ++ drop answerLength numbers
+
+-- of the return code, and the row buffer, the place buffer and the answer buffer as they were and as they are left
+pub record Links (limits : Limits) (bytes : List ℕ) (budget : ℕ) (rows places : List ℤ) (numbers : List ℕ) (code : ℕ) (rows′ places′ : List ℤ) (numbers′ : List ℕ) : Type 0 where
+  -- an answer buffer that is too short: the code says so, and nothing is written
+  pub short : length numbers < answerLength → (code ≡ shortCode) × ((rows′ ≡ rows) × ((places′ ≡ places) × (numbers′ ≡ numbers)))
+  pub enough : answerLength ≤ length numbers → (code ≡ answeredCode) × Answers limits bytes budget rows places numbers rows′ places′ numbers′
