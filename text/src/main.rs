@@ -1,0 +1,158 @@
+//! The command line.
+
+use std::env;
+use std::fs;
+use std::io::{self, Read, Write};
+use std::path::{Path, PathBuf};
+use std::process::ExitCode;
+
+use guardtext::check::Source;
+use guardtext::decode::decode;
+use guardtext::desk::{Answer, Desk, Program};
+use guardtext::encode::{encode, hex};
+use guardtext::show::show;
+use guardtext::write::write;
+
+const USAGE: &str = "\
+usage: guardtext decide FILE [--budget N] [--desk PATH]  the desk's answer to a text
+       guardtext encode FILE [--hex]                     the guard file of a text
+       guardtext text FILE                               the text of a guard file or its hex
+FILE may be - for standard input. N is 1000000 if not given. PATH is the program guarddesk;
+if not given, target/bin/guarddesk in the repository that this program was built in.";
+
+/// Why the program fails.
+enum Failure {
+    /// The command line is wrong, a file can't be read, or the desk can't be asked.
+    Use(String),
+    /// The text or the guard file is wrong.
+    Wrong(String),
+    /// As `Wrong`, and the answer is printed already.
+    Refused,
+}
+
+fn main() -> ExitCode {
+    let words: Option<Vec<String>> = env::args_os()
+        .skip(1)
+        .map(|word| word.into_string().ok())
+        .collect();
+    let result = match words {
+        Some(words) => run(&words),
+        None => Err(Failure::Use("the arguments aren't UTF-8".to_string())),
+    };
+    let (why, status) = match result {
+        Ok(()) => return ExitCode::SUCCESS,
+        Err(Failure::Refused) => return ExitCode::from(1),
+        Err(Failure::Wrong(why)) => (why, 1),
+        Err(Failure::Use(why)) => (why, 2),
+    };
+    // Nothing is left to try if standard error is gone as well.
+    let _ = writeln!(io::stderr(), "guardtext: {why}");
+    ExitCode::from(status)
+}
+
+/// What a command line asks for.
+struct Options {
+    file: String,
+    budget: u32,
+    hex: bool,
+    desk: PathBuf,
+}
+
+fn run(words: &[String]) -> Result<(), Failure> {
+    let unclear = |why: &str| Failure::Use(format!("{why}\n{USAGE}"));
+    let Some((command, words)) = words.split_first() else {
+        return Err(unclear("a command is missing"));
+    };
+    let mut options = Options {
+        file: String::new(),
+        budget: 1_000_000,
+        hex: false,
+        desk: Path::new(env!("CARGO_MANIFEST_DIR")).join("../target/bin/guarddesk"),
+    };
+    let mut words = words.iter();
+    while let Some(word) = words.next() {
+        match (word.as_str(), command.as_str()) {
+            ("--hex", "encode") => options.hex = true,
+            ("--budget", "decide") => {
+                let budget = words.next().and_then(|word| word.parse().ok());
+                let most = u32::MAX;
+                let why = format!("--budget needs a number from 0 to {most}");
+                options.budget = budget.ok_or_else(|| unclear(&why))?;
+            }
+            ("--desk", "decide") => {
+                let path = words.next().ok_or_else(|| unclear("--desk needs a path"))?;
+                options.desk = PathBuf::from(path);
+            }
+            (file, _) if options.file.is_empty() && (file == "-" || !file.starts_with('-')) => {
+                options.file = file.to_string();
+            }
+            (other, _) => return Err(unclear(&format!("{other} isn't expected"))),
+        }
+    }
+    if options.file.is_empty() {
+        return Err(unclear("FILE is missing"));
+    }
+    match command.as_str() {
+        "decide" => decide_command(&options),
+        "encode" => encode_command(&options),
+        "text" => text_command(&options),
+        other => Err(unclear(&format!("there is no command {other}"))),
+    }
+}
+
+fn load(path: &str) -> Result<Vec<u8>, Failure> {
+    let mut bytes = Vec::new();
+    let result = match path {
+        "-" => io::stdin().read_to_end(&mut bytes).map(|_| bytes),
+        _ => fs::read(path),
+    };
+    result.map_err(|error| Failure::Use(format!("{path} can't be read: {error}")))
+}
+
+fn print(bytes: &[u8]) -> Result<(), Failure> {
+    let mut out = io::stdout().lock();
+    let result = out.write_all(bytes).and_then(|()| out.flush());
+    result.map_err(|error| Failure::Use(format!("standard output can't be written: {error}")))
+}
+
+/// Reads a text; what is wrong with it is said with the file, the line and the column.
+fn source(path: &str) -> Result<Source, Failure> {
+    let text = String::from_utf8(load(path)?)
+        .map_err(|_| Failure::Wrong(format!("{path} isn't UTF-8 text")))?;
+    guardtext::read(&text).map_err(|fault| Failure::Wrong(format!("{path}, {fault}")))
+}
+
+fn decide_command(options: &Options) -> Result<(), Failure> {
+    let source = source(&options.file)?;
+    let file = encode(&source.guard);
+    let desk = Program {
+        path: options.desk.clone(),
+    };
+    let answer = desk.decide(&file.bytes, options.budget);
+    let answer = answer.map_err(Failure::Use)?;
+    let shown = show(&source, &file, &answer).map_err(Failure::Use)?;
+    print(shown.as_bytes())?;
+    match answer {
+        Answer::Refused(_) => Err(Failure::Refused),
+        _ => Ok(()),
+    }
+}
+
+fn encode_command(options: &Options) -> Result<(), Failure> {
+    let bytes = encode(&source(&options.file)?.guard).bytes;
+    match options.hex {
+        true => print(format!("{}\n", hex(&bytes)).as_bytes()),
+        false => print(&bytes),
+    }
+}
+
+fn text_command(options: &Options) -> Result<(), Failure> {
+    let bytes = load(&options.file)?;
+    let wrong = |why: String| Failure::Wrong(format!("{}, {why}", options.file));
+    let file = match guardtext::decode::from_hex(&bytes) {
+        Some(file) => file.map_err(wrong)?,
+        None => bytes,
+    };
+    let guard = decode(&file).map_err(|refusal| wrong(refusal.to_string()))?;
+    print(write(&guard).as_bytes())
+}

@@ -1,0 +1,60 @@
+//! The test vectors: every file is taken or refused as expected, and every accepted one
+//! comes back from its text.
+
+use guardtext::decode::{decode, from_hex};
+use guardtext::encode::{encode, hex};
+use guardtext::write::write;
+
+#[test]
+fn files_come_back_from_their_texts() {
+    let path = concat!(env!("CARGO_MANIFEST_DIR"), "/../vectors/vectors.txt");
+    let vectors = std::fs::read_to_string(path).expect("the vectors");
+    let (mut taken, mut refused) = (0, 0);
+    for vector in vectors.lines().filter(|line| !line.starts_with('#')) {
+        let columns: Vec<&str> = vector.split('\t').collect();
+        let [name, _, digits, answer] = columns[..] else {
+            panic!("{vector}");
+        };
+        let file = match digits {
+            "-" => Vec::new(),
+            _ => from_hex(digits.as_bytes()).expect(name).expect(name),
+        };
+        match decode(&file) {
+            Err(refusal) => {
+                let found = format!("REFUSED {}", refusal.why.question());
+                assert_eq!(found, answer, "{name}");
+                refused += 1;
+            }
+            Ok(guard) => {
+                assert!(!answer.starts_with("REFUSED"), "{name}");
+                assert_eq!(hex(&encode(&guard).bytes), digits, "{name}");
+                let text = write(&guard);
+                let source = guardtext::read(&text);
+                let source = source.unwrap_or_else(|fault| panic!("{name}: {fault}\n{text}"));
+                assert_eq!(source.guard, guard, "{name}");
+                assert_eq!(source.names.terms.len(), guard.rows.len(), "{name}");
+                assert_eq!(hex(&encode(&source.guard).bytes), digits, "{name}");
+                taken += 1;
+            }
+        }
+    }
+    assert!(taken > 1_000 && refused > 500, "{taken} and {refused}");
+}
+
+#[test]
+fn hexadecimal_is_told_from_a_file() {
+    assert_eq!(from_hex(b"\x02\x00"), None);
+    assert_eq!(from_hex(b""), None);
+    assert_eq!(from_hex(b" 02 00\n1F"), Some(Ok(vec![2, 0, 31])));
+    assert!(matches!(from_hex(b"020"), Some(Err(_))));
+    assert!(matches!(from_hex(b"0g"), Some(Err(_))));
+}
+
+#[test]
+fn a_fifth_byte_ends_a_number() {
+    let question = |file: &[u8]| decode(file).expect_err("a refusal").why.question();
+    assert_eq!(question(&[0x80; 4]), 2);
+    assert_eq!(question(&[0x80; 5]), 3);
+    assert_eq!(question(&[0xff, 0xff, 0xff, 0xff, 0x1f]), 3);
+    assert_eq!(question(&[0xff, 0xff, 0xff, 0xff, 0x0f]), 4);
+}
