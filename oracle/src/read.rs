@@ -20,6 +20,20 @@ pub enum Question {
 }
 
 impl Question {
+    /// All questions, in their order.
+    pub const ALL: [Question; 10] = [
+        Question::BuffersLongEnough,
+        Question::NumberEnds,
+        Question::NumberForm,
+        Question::CountWithinLimits,
+        Question::NamedThingExists,
+        Question::KindListed,
+        Question::TypeFits,
+        Question::DefaultsExist,
+        Question::FieldsCanGrow,
+        Question::FileEnded,
+    ];
+
     pub fn number(self) -> u8 {
         self as u8
     }

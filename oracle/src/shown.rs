@@ -53,11 +53,25 @@ pub fn check_call(
     places: &[i32],
 ) -> Result<(), Fault> {
     let expected = answer_with_buffers(file, budget, limits, rows.len(), places.len());
+    let guard = read::read(file, limits).ok();
+    let claim = (claimed, row_count);
+    check_known_call(expected, guard.as_ref(), claim, rows, places)
+}
+
+/// As `check_call`, where the answer and the guard of an accepted file are
+/// known.
+pub fn check_known_call(
+    expected: Answer,
+    guard: Option<&Guard>,
+    (claimed, row_count): (Answer, usize),
+    rows: &[i32],
+    places: &[i32],
+) -> Result<(), Fault> {
     ensure(claimed == expected, || {
         format!("answered {claimed}, expected {expected}")
     })?;
-    if let (Answer::Sat { .. }, Ok(guard)) = (claimed, read::read(file, limits)) {
-        return check_shown(&guard, row_count, rows, places);
+    if let (Answer::Sat { .. }, Some(guard)) = (claimed, guard) {
+        return check_shown(guard, row_count, rows, places);
     }
     // "After UNSAT or SPENT both buffers are all 0"; the same after REFUSED.
     ensure(row_count == 0, || {

@@ -20,6 +20,26 @@ pub fn script(guard: &Guard) -> String {
     script.join("\n") + "\n"
 }
 
+/// The script between `push` and `pop`, with a prefix before each name and
+/// without the logic: many guards for one process. z3 keeps names past a `pop`.
+pub fn scoped(guard: &Guard, prefix: &str) -> String {
+    let script = script(guard);
+    let (_, script) = script.split_once('\n').expect("the logic's line");
+    let mut scoped = "(push 1)\n".to_string();
+    let mut before = ' ';
+    let mut rest = script.chars().peekable();
+    while let Some(letter) = rest.next() {
+        // Names are a letter and a number, with more after it.
+        let first = !before.is_alphanumeric() && "Tcft".contains(letter);
+        if first && rest.peek().is_some_and(char::is_ascii_digit) {
+            scoped += prefix;
+        }
+        scoped.push(letter);
+        before = letter;
+    }
+    scoped + "(pop 1)\n"
+}
+
 /// Number types are all `Int`: no term is of two types.
 fn sort(guard: &Guard, ty: usize) -> String {
     if guard.types[ty].is_number() {
@@ -119,5 +139,31 @@ fn formula(guard: &Guard, line: &Line) -> String {
         Line::Unequal(a, b) => format!("(not (= t{a} t{b}))"),
         Line::Is(term, variant) => is(term, variant),
         Line::Isnt(term, variant) => format!("(not {})", is(term, variant)),
+    }
+}
+
+#[cfg(test)]
+mod tests {
+    use super::*;
+    use crate::guard::Limits;
+    use crate::read::read;
+    use crate::vectors::unhex;
+
+    #[test]
+    fn a_prefix_before_every_name() {
+        // Case c of document 01, with a constant.
+        let file = unhex("02 00 02 00 02 00 01 03 00 01 03 00 01 01 01 00 05 01 00 00 01");
+        let guard = read(&file.expect("bytes"), Limits::BASE).expect("a guard");
+        let expected = "\
+(push 1)
+(declare-datatypes ((g7T1 0)) (((g7c1_0) (g7c1_1 (g7f1_1_0 Int) (g7f1_1_1 g7T1)))))
+(declare-const g7t0 g7T1)
+(define-fun g7t1 () g7T1 (ite ((_ is g7c1_1) g7t0) (g7f1_1_1 g7t0) g7c1_0))
+(define-fun g7t2 () Int (- 3))
+(assert (= g7t0 g7t1))
+(check-sat)
+(pop 1)
+";
+        assert_eq!(scoped(&guard, "g7"), expected);
     }
 }

@@ -18,13 +18,12 @@
 //!
 //! A call needs 820 KB of stack: the main thread and threads that [`std::thread::spawn`] makes by default have more.
 
-mod desk;
 mod fields;
 mod messages;
+pub mod raw;
 
 pub use messages::{Kind, Message, Messages, Named, Names, Parts};
 
-use desk::Verdict;
 use std::fmt;
 
 /// The answer to a guard file.
@@ -58,16 +57,19 @@ pub enum Answer {
 
 /// Decides a guard file, visiting at most `budget` nodes of its search.
 pub fn decide(file: &[u8], budget: u32) -> Answer {
-    let mut rows = vec![0; desk::ROWS_LENGTH];
-    let mut places = [0; desk::PLACES_LENGTH];
-    match desk::call(file, budget, &mut rows, &mut places) {
-        Verdict::Refused(question) => Answer::Refused { question },
-        Verdict::Sat(nodes, many) => Answer::Sat {
+    let mut rows = vec![0; raw::ROWS_LENGTH];
+    let mut places = [0; raw::PLACES_LENGTH];
+    let mut answer = [0; raw::ANSWER_LENGTH];
+    let code = raw::decide_into(file, budget, &mut rows, &mut places, &mut answer);
+    match (code, answer) {
+        (raw::ANSWERED, [raw::REFUSED, question, _]) => Answer::Refused { question },
+        (raw::ANSWERED, [raw::SAT, nodes, many]) => Answer::Sat {
             nodes,
             messages: Messages::read(file, many as usize, &rows, &places),
         },
-        Verdict::Unsat(nodes) => Answer::Unsat { nodes },
-        Verdict::Spent(budget) => Answer::Spent { budget },
+        (raw::ANSWERED, [raw::UNSAT, nodes, _]) => Answer::Unsat { nodes },
+        (raw::ANSWERED, [raw::SPENT, budget, _]) => Answer::Spent { budget },
+        _ => unreachable!("the library's contract has no such answer: code {code}, {answer:?}"),
     }
 }
 

@@ -12,17 +12,10 @@ use crate::types::Type;
 /// Files for each question.
 const EACH: usize = 24;
 
-pub fn add(set: &mut Set) {
+pub(super) fn add(set: &mut Set) {
     let mut random = Random::named("refused");
-    let in_a_number = [
-        Question::NumberEnds,
-        Question::NumberForm,
-        Question::CountWithinLimits,
-        Question::NamedThingExists,
-        Question::KindListed,
-        Question::TypeFits,
-    ];
-    for question in in_a_number {
+    // The questions that are asked at a number.
+    for question in Question::ALL[1..7].iter().copied() {
         fill(set, question, || damage(&mut random, question));
     }
     for question in [Question::DefaultsExist, Question::FieldsCanGrow] {
@@ -53,14 +46,14 @@ fn fill(set: &mut Set, question: Question, mut make: impl FnMut() -> Vec<u8>) {
 }
 
 /// An accepted guard, small or large.
-fn whole(random: &mut Random) -> Draft {
+pub fn whole(random: &mut Random) -> Draft {
     let profiles = profiles::all();
     let profile = &profiles[random.below(profiles.len())];
     random::draft(random, profile)
 }
 
 /// An accepted file with one number made wrong.
-fn damage(random: &mut Random, question: Question) -> Vec<u8> {
+pub fn damage(random: &mut Random, question: Question) -> Vec<u8> {
     let mut tokens = whole(random).tokens(Limits::BASE);
     let at = random.below(tokens.len());
     let token = &mut tokens[at];
@@ -114,7 +107,7 @@ fn respelled(random: &mut Random, tokens: &[Token], at: usize) -> Vec<u8> {
 
 /// Types that are likely to lack a default or a field that can grow; the file
 /// stops after them or goes on.
-fn bad_types(random: &mut Random) -> Vec<u8> {
+pub fn bad_types(random: &mut Random) -> Vec<u8> {
     let many = 1 + random.below(6);
     let mut draft = Draft::default();
     for _ in 0..many {
@@ -142,7 +135,7 @@ fn bad_types(random: &mut Random) -> Vec<u8> {
 }
 
 /// An accepted file with something after it.
-fn too_long(random: &mut Random) -> Vec<u8> {
+pub fn too_long(random: &mut Random) -> Vec<u8> {
     let mut file = whole(random).bytes();
     for _ in 0..=random.below(3) {
         file.push(random.bits() as u8);

@@ -1,10 +1,10 @@
 //! The test vectors: a fixed set of files with their expected answers.
 
-mod broken;
+pub mod broken;
 mod cases;
 mod families;
 mod numbers;
-mod profiles;
+pub mod profiles;
 mod walks;
 
 use crate::answer::{answer, Answer};
@@ -158,7 +158,8 @@ pub fn first_difference(found: &str, expected: &str) -> Option<String> {
     })
 }
 
-fn hex(bytes: &[u8]) -> String {
+/// Bytes in hexadecimal, - if there are none.
+pub fn hex(bytes: &[u8]) -> String {
     if bytes.is_empty() {
         return "-".to_string();
     }

@@ -175,7 +175,7 @@ fn class(answer: Answer) -> Option<usize> {
     }
 }
 
-pub fn add(set: &mut Set) {
+pub(super) fn add(set: &mut Set) {
     for profile in all() {
         let mut random = Random::named(profile.name);
         let mut left = [EACH / 6, EACH / 6, EACH / 3, EACH / 3];

@@ -1,0 +1,129 @@
+//! The library's one function over the caller's own buffers, for programs that keep buffers between calls or look at every
+//! number of them. The only unsafe code of the crate. [`decide`](crate::decide) is easier to use.
+//!
+//! ```
+//! use guarddesk::raw::{decide_into, ANSWERED, ANSWER_LENGTH, PLACES_LENGTH, ROWS_LENGTH, SAT};
+//!
+//! let mut rows = [0; ROWS_LENGTH];
+//! let mut places = [0; PLACES_LENGTH];
+//! let mut answer = [0; ANSWER_LENGTH];
+//! // The guard without types, terms or lines: SAT, one node, no rows.
+//! let code = decide_into(&[0, 0, 0], 1, &mut rows, &mut places, &mut answer);
+//! assert_eq!((code, answer), (ANSWERED, [SAT, 1, 0]));
+//! ```
+
+/// How many numbers the row buffer has to hold.
+pub const ROWS_LENGTH: usize = 16384;
+/// How many numbers the place buffer has to hold.
+pub const PLACES_LENGTH: usize = 24;
+/// How many numbers the answer has.
+pub const ANSWER_LENGTH: usize = 3;
+
+/// The call was answered.
+pub const ANSWERED: u32 = 0;
+/// The answer buffer is too short; nothing was written.
+pub const ANSWER_TOO_SHORT: u32 = 1;
+
+/// The verdict on what is no guard file, or on short buffers; the answer's second number is the question that got a no.
+pub const REFUSED: u32 = 0;
+/// The verdict on a guard that can hold; node count and number of rows follow.
+pub const SAT: u32 = 1;
+/// The verdict on a guard that cannot hold; the node count follows.
+pub const UNSAT: u32 = 2;
+/// The verdict on a search of more nodes than the budget; the budget follows.
+pub const SPENT: u32 = 3;
+
+// As link/guarddesk.h has it.
+extern "C" {
+    fn guarddesk_decide(
+        file: *const u8,
+        file_length: usize,
+        budget: u32,
+        rows: *mut i32,
+        rows_length: usize,
+        places: *mut i32,
+        places_length: usize,
+        answer: *mut u32,
+        answer_length: usize,
+    ) -> u32;
+}
+
+/// Decides a guard file within a budget of nodes. Buffers of any length are safe.
+///
+/// [`ANSWER_TOO_SHORT`] says that `answer` has fewer than three numbers; then nothing is written. Otherwise the code is
+/// [`ANSWERED`], and the first three numbers of `answer` are the verdict, its number, and the number of rows (0 but after
+/// [`SAT`]); the others stay as they were. After [`SAT`] the rows and places are laid out as `link/guarddesk.h` says, with
+/// zeros to the end of both buffers; after every other verdict both are all zero.
+#[allow(unsafe_code)]
+pub fn decide_into(
+    file: &[u8],
+    budget: u32,
+    rows: &mut [i32],
+    places: &mut [i32],
+    answer: &mut [u32],
+) -> u32 {
+    // SAFETY: each pointer and length is that of a slice, so it is aligned, not null and points to so many numbers; the
+    // three that are written are borrowed mutably, so they overlap nothing and nobody else looks at them. The function has
+    // no other condition, keeps no pointer and does not unwind.
+    unsafe {
+        guarddesk_decide(
+            file.as_ptr(),
+            file.len(),
+            budget,
+            rows.as_mut_ptr(),
+            rows.len(),
+            places.as_mut_ptr(),
+            places.len(),
+            answer.as_mut_ptr(),
+            answer.len(),
+        )
+    }
+}
+
+#[cfg(test)]
+mod tests {
+    use super::*;
+
+    const NO_GUARD: &[u8] = &[0, 0, 0];
+
+    #[test]
+    fn short_buffers_are_question_1_and_cleared() {
+        for (rows, places) in [
+            (ROWS_LENGTH - 1, PLACES_LENGTH),
+            (ROWS_LENGTH, PLACES_LENGTH - 1),
+            (0, 0),
+        ] {
+            let (mut rows, mut places, mut answer) = (vec![7; rows], vec![7; places], [7; 3]);
+            let code = decide_into(NO_GUARD, 1, &mut rows, &mut places, &mut answer);
+            assert_eq!((code, answer), (ANSWERED, [REFUSED, 1, 0]));
+            assert!(rows.iter().chain(&places).all(|&n| n == 0));
+        }
+    }
+
+    #[test]
+    fn longer_buffers_are_cleared_to_their_end() {
+        let (mut rows, mut places, mut answer) =
+            ([7; ROWS_LENGTH + 5], [7; PLACES_LENGTH + 5], [7; 3]);
+        let code = decide_into(NO_GUARD, 1, &mut rows, &mut places, &mut answer);
+        assert_eq!((code, answer), (ANSWERED, [SAT, 1, 0]));
+        assert!(rows.iter().chain(&places).all(|&n| n == 0));
+    }
+
+    #[test]
+    fn too_short_an_answer_buffer_is_told_and_nothing_written() {
+        for many in 0..ANSWER_LENGTH {
+            let (mut rows, mut places, mut answer) =
+                ([7; ROWS_LENGTH], [7; PLACES_LENGTH], vec![7; many]);
+            let code = decide_into(NO_GUARD, 1, &mut rows, &mut places, &mut answer);
+            assert_eq!(code, ANSWER_TOO_SHORT);
+            assert!(rows.iter().chain(&places).all(|&n| n == 7) && answer.iter().all(|&n| n == 7));
+        }
+    }
+
+    #[test]
+    fn a_longer_answer_buffer_keeps_its_rest() {
+        let (mut rows, mut places, mut answer) = ([7; ROWS_LENGTH], [7; PLACES_LENGTH], [7; 5]);
+        let code = decide_into(NO_GUARD, 1, &mut rows, &mut places, &mut answer);
+        assert_eq!((code, answer), (ANSWERED, [SAT, 1, 0, 7, 7]));
+    }
+}
