@@ -15,6 +15,7 @@ use Rattle.guard.specs.Number.{Parsed, Parsed.accepted, Parsed.refused}
 use Rattle.guard.specs.Search.{Visits, Visits.closed, Visits.opened, W, nodeCount, searchOf, visits}
 use Rattle.guard.specs.Shown.{shown}
 use Rattle.guard.specs.declared.Answer.{Answer}
+use Rattle.guard.specs.declared.Answer.the-variants.{Refused, Sat, Unsat, Spent}
 use Rattle.guard.proofs.AnswerLaws.{enough, spent-exactly, too-few}
 use Rattle.guard.proofs.Claims.{Accepts, accepts-all, base-supported}
 use Rattle.theory.proofs.Theorems.{count-at-most, open-exactly}
@@ -30,6 +31,21 @@ module _ (bytes : List ℕ) (budget : ℕ) (rows places : List ℤ) (r : Answer)
       go : (p : Parsed Guard) → questions base bytes (length rows) (length places) ≡ p → afterQuestions budget p ≡ refusal q → questions base bytes (length rows) (length places) ≡ refused q
       go (refused k) e h = let s : k ≡ q = cc in e ∙ ap (λ (i : ℕ). refused i) s
       go (accepted g rest) e h = absurd (never-refused budget (searchOf g) q h)
+
+  -- "4,096 rows always suffice"
+  pub few-rows : rowsOf r ≤ 4096
+  unfolding outcome outcomeOf rowsOf
+  few-rows = go r refl
+    where
+      shown-few : (n k : ℕ) → r ≡ Sat n k → (p : Parsed Guard) → questions base bytes (length rows) (length places) ≡ p → afterQuestions budget p ≡ sat n → k ≤ 4096
+      shown-few n k e (refused q) t h = let z : _≡_ {A = ℕ} 0 1 = cc in absurd (omega (arith, z))
+      shown-few n k e (accepted g rest) t h = omega (arith, d .shown g rest t n (ap outcomeOf e) .few, ap rowsOf e)
+
+      go : (a : Answer) → r ≡ a → rowsOf a ≤ 4096
+      go (Refused q) e = omega arith
+      go (Sat n k) e = shown-few n k e (questions base bytes (length rows) (length places)) refl (sym (d .says) ∙ ap outcomeOf e)
+      go (Unsat n) e = omega arith
+      go (Spent b) e = omega arith
 
   -- ---- an accepted file
 

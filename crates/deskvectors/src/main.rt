@@ -61,7 +61,7 @@ fn answer(file: &[u8], budget: u32, rows: &mut [i32], places: &mut [i32]) {
     make_noise(rows);
     make_noise(places);
     let a = decide::decide(file, budget, rows, places);
-    deskprint::print_answer(file, a, rows, places);
+    answertext::print_answer(file, a, rows, places);
     check_rest(file, a, rows, places);
 }
 

@@ -11,16 +11,22 @@ fn minus(x: u32, y: u32) -> u32 {
     x - y
 }
 
+fn print_line(name: &[u8], value: u32) {
+    io::write_all(1, name);
+    io::print_decimal(1, value as u64);
+    io::write_all(1, b"\n");
+}
+
 fn print_outcome(budget: u32, o: Outcome) {
     match o {
-        Outcome::Open(left) => deskprint::print_line(b"SAT ", minus(budget, left)),
-        Outcome::Closed(left) => deskprint::print_line(b"UNSAT ", minus(budget, left)),
-        Outcome::Spent => deskprint::print_line(b"SPENT ", budget),
+        Outcome::Open(left) => print_line(b"SAT ", minus(budget, left)),
+        Outcome::Closed(left) => print_line(b"UNSAT ", minus(budget, left)),
+        Outcome::Spent => print_line(b"SPENT ", budget),
     }
 }
 
 fn print_refused(question: u32) {
-    deskprint::print_line(b"REFUSED ", question);
+    print_line(b"REFUSED ", question);
 }
 
 // Prints the answer to a file.

@@ -1,5 +1,6 @@
--- `next_file` is safe: the part that it lends is as long as the file. Assumes nothing.
+-- `next_file`: the part that it lends is as long as the file, so what is read is no longer than the buffer. Assumes nothing.
 use mathlib.Core.Path.{sym}
+use native.Mathlib.Omega.{arith}
 use lib.Seq.{length-take-le}
 use borrow.Author.Needs.{needs}
 use Rattle.packed.proofs.next_file.Statement.{statement}
@@ -27,7 +28,7 @@ same-length : tie.Need-same-length
 same-length c = search needs
 
 returns-2 : tie.Need-returns-2
-returns-2 c = search needs
+returns-2 c = λ h. absurd (omega (arith, h, c .before .before .read-full .ensures, length-take-le (c .before .before .before .before .before .next-length .result) (c .before .before .before .before .before .before .before .args .buffer .now) (c .before .before .before .before .if1 .left)))
 
 pub next-file-spec : {M : Type 1} → statement M
 next-file-spec =

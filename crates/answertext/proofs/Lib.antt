@@ -1,0 +1,5 @@
+mod Arities
+mod RowTexts
+mod TablesShown
+mod AnswerKnown
+pub mod TextCases

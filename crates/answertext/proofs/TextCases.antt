@@ -1,0 +1,32 @@
+-- Document 01's own texts: file c as `guarddesk` prints it, and its two examples of a row. Assumes nothing.
+use mathlib.Core.Path.{_≡_, refl}
+use mathlib.Core.List.{List, [], _∷_}
+use Prim.Native.Nat.{ℕ}
+use lib.IntN.{ℤ, pos, negsuc}
+use Rattle.guard.specs.Cases.{fileC}
+use Rattle.guard.specs.File.{file}
+use Rattle.guard.specs.Limits.{base}
+use Rattle.guard.specs.declared.Answer.the-variants.{Sat}
+use Rattle.guard.proofs.ShownCase.{placesC, rowsC}
+use Rattle.writing.specs.Words.{ascii, decimal, numberText, signed}
+use Rattle.answertext.specs.Text.{answerText, madeText, partsText, rowBy, rowLine, rowText, shownText, termLine, valueText, verdictLine}
+
+-- "For file c `guarddesk` prints exactly"
+pub text-of-c : answerText (file base fileC) (Sat 3 1) rowsC placesC ≡ ascii "SAT 3\nrow 0 type 1 variant 0\nterm 0 row 0\nterm 1 row 0\n"
+unfolding answerText decimal file madeText numberText partsText rowBy rowLine rowText shownText signed termLine valueText verdictLine
+text-of-c = refl
+
+-- "as `row 2 type 1 variant 1 parts 0 1`, without `parts` where it has none, or as `row 0 type 0 number -3`"
+abbrev pub rows : List ℤ
+rows = negsuc 0 ∷ negsuc 2 ∷ pos 0 ∷ pos 0 ∷ pos 16 ∷ pos 0 ∷ pos 0 ∷ pos 0 ∷ pos 17 ∷ pos 0 ∷ pos 1 ∷ pos 0 ∷ []
+
+abbrev pub arity : ℕ → ℕ → ℕ
+arity t v = 2
+
+pub text-of-message : rowLine arity rows 2 ≡ ascii "row 2 type 1 variant 1 parts 0 1\n"
+unfolding decimal madeText numberText partsText rowBy rowLine rowText signed valueText
+text-of-message = refl
+
+pub text-of-number : rowLine arity rows 0 ≡ ascii "row 0 type 0 number -3\n"
+unfolding decimal madeText numberText partsText rowBy rowLine rowText signed valueText
+text-of-number = refl
