@@ -1,23 +1,21 @@
-//! Times whole calls in one process: the proved library and its twin in Rust, on packed guards from standard input.
+//! Whole calls in one process, to be timed from outside: the proved library and its twin in Rust, on packed guards from
+//! standard input.
 
 use std::env;
 use std::hint::black_box;
 use std::io::{self, BufWriter, Read, Write};
 use std::process::ExitCode;
-use std::time::Instant;
 
 use guarddesk::raw;
 use oracle::guard::Limits;
 use twin::Answer;
 
 const USAGE: &str = "\
-usage: calls time ROUNDS TIMES  in each round all guards by each desk in turn, each guard so many times: lines with the
-                                number of the guard, and nanoseconds of a call of the proved library and of the twin
-       calls rattle TIMES       all guards so many times by the proved library, nothing else
-       calls rust TIMES         the same by the twin
-       calls answers            the answer to each guard in a line, after both desks gave it
-       calls smt                all guards as one SMT-LIB 2 script
-Standard input has packed guards. `time` and `answers` stop if the two desks differ in a number.";
+usage: calls rattle TIMES  all guards so many times by the proved library
+       calls rust TIMES    the same by the twin
+       calls answers       the answer to each guard in a line, if the two desks don't differ in a number
+       calls smt           all guards as one SMT-LIB 2 script, between push and pop if there are several
+Standard input has packed guards.";
 
 /// A guard file and a budget.
 type Guard<'a> = (&'a [u8], u32);
@@ -32,8 +30,6 @@ struct Buffers {
 
 /// A desk's whole call.
 type Call = fn(&mut Buffers, Guard);
-
-const DESKS: [Call; 2] = [Buffers::rattle, Buffers::rust];
 
 impl Buffers {
     /// Numbers that no call leaves.
@@ -74,7 +70,7 @@ impl Buffers {
 /// The answer to each guard, if both desks give the same numbers in all buffers.
 fn answers(guards: &[Guard]) -> Result<Vec<String>, String> {
     let answer = |(i, &guard)| {
-        let [rattle, rust] = DESKS.map(|call| {
+        let [rattle, rust] = [Buffers::rattle as Call, Buffers::rust].map(|call| {
             let mut buffers = Buffers::new();
             call(&mut buffers, guard);
             buffers
@@ -88,31 +84,6 @@ fn answers(guards: &[Guard]) -> Result<Vec<String>, String> {
     guards.iter().enumerate().map(answer).collect()
 }
 
-/// Nanoseconds of a call with each guard.
-fn nanoseconds(call: Call, guards: &[Guard], times: u32, buffers: &mut Buffers) -> Vec<f64> {
-    let one = |&guard| {
-        let start = Instant::now();
-        for _ in 0..times {
-            call(buffers, black_box(guard));
-        }
-        start.elapsed().as_nanos() as f64 / f64::from(times)
-    };
-    guards.iter().map(one).collect()
-}
-
-fn time(guards: &[Guard], rounds: u32, times: u32) -> Result<String, String> {
-    answers(guards)?;
-    let mut buffers = Buffers::new();
-    let mut lines = String::new();
-    for _ in 0..rounds {
-        let [rattle, rust] = DESKS.map(|call| nanoseconds(call, guards, times, &mut buffers));
-        for (i, (rattle, rust)) in rattle.iter().zip(&rust).enumerate() {
-            lines += &format!("{i} {rattle:.1} {rust:.1}\n");
-        }
-    }
-    Ok(lines)
-}
-
 fn repeat(call: Call, guards: &[Guard], times: u32) -> String {
     let mut buffers = Buffers::new();
     for _ in 0..times {
@@ -123,13 +94,16 @@ fn repeat(call: Call, guards: &[Guard], times: u32) -> String {
     String::new()
 }
 
-/// The guards that aren't refused, with different names: z3 keeps names past a `pop`.
+/// The guards that aren't refused. Several have different names: z3 keeps names past a `pop`.
 fn smt(guards: &[Guard]) -> String {
+    let read = |&(file, _): &Guard| oracle::read::read(file, Limits::BASE).ok();
+    let guards: Vec<_> = guards.iter().filter_map(read).collect();
+    if let [guard] = &guards[..] {
+        return oracle::smt::script(guard);
+    }
     let mut script = "(set-logic ALL)\n".to_string();
-    for (i, (file, _)) in guards.iter().enumerate() {
-        if let Ok(guard) = oracle::read::read(file, Limits::BASE) {
-            script += &oracle::smt::scoped(&guard, &format!("g{i}"));
-        }
+    for (i, guard) in guards.iter().enumerate() {
+        script += &oracle::smt::scoped(guard, &format!("g{i}"));
     }
     script
 }
@@ -140,7 +114,6 @@ fn number(word: &str) -> Result<u32, String> {
 
 fn run(words: &[&str], guards: &[Guard]) -> Result<String, String> {
     match words {
-        ["time", rounds, times] => time(guards, number(rounds)?, number(times)?),
         ["rattle", times] => Ok(repeat(Buffers::rattle, guards, number(times)?)),
         ["rust", times] => Ok(repeat(Buffers::rust, guards, number(times)?)),
         ["answers"] => Ok(answers(guards)?.join("\n") + "\n"),
@@ -191,13 +164,10 @@ mod tests {
     }
 
     #[test]
-    fn a_line_for_each_guard_and_round() {
-        let lines = time(&GUARDS, 3, 2).unwrap();
-        assert_eq!(lines.lines().count(), 3 * GUARDS.len());
-    }
-
-    #[test]
     fn a_question_for_each_guard_that_is_accepted() {
-        assert_eq!(smt(&GUARDS).matches("(check-sat)").count(), 4);
+        let script = smt(&GUARDS);
+        assert_eq!(script.matches("(check-sat)").count(), 4);
+        assert_eq!(script.matches("(push 1)").count(), 4);
+        assert!(!smt(&GUARDS[..1]).contains("(push 1)"));
     }
 }
