@@ -9,20 +9,21 @@ import table
 
 
 def line(points):
-    """The straight line nearest to points: its value at 0, its slope, and the largest distance from it, of the value."""
+    """The straight line nearest to points: its value at 0, its slope, and the largest part that a point is off."""
     xs, ys = zip(*points)
     slope, start = statistics.linear_regression(xs, ys)
     off = max(abs(start + slope * x - y) / y for x, y in points)
     return start, slope, off
 
 
-def measured(built, guard, options):
-    """The runs of each desk, microseconds a call."""
-    data = guards.pack([guard])
-    found = {desk: [] for desk in short.DESKS}
+def measured(built, series, options):
+    """The runs of each guard and desk, microseconds a call. A run takes all guards, so that a busy minute spoils no point."""
+    found = [{desk: [] for desk in short.DESKS} for _ in series]
     for _ in range(options.runs):
-        for desk, runs in found.items():
-            runs.append(1e6 * short.called(built, desk, data, options.calls))
+        for guard, desks in zip(series, found):
+            data = guards.pack([guard])
+            for desk, runs in desks.items():
+                runs.append(1e6 * short.called(built, desk, data, options.calls))
     return found
 
 
@@ -33,15 +34,15 @@ def times(built, options):
         series = guards.series(name)
         short.check(built, series)
         rows = []
-        for guard in series:
-            found = measured(built, guard, options)
+        for guard, found in zip(series, measured(built, series, options)):
             ratio = programs.ratio(found["rattle"], found["rust"])
-            medians = [statistics.median(found[desk]) for desk in short.DESKS]
-            rows.append([len(guard.file), *(f"{median:.2f}" for median in medians), f"{ratio:.2f}"])
-            for desk, median in zip(short.DESKS, medians):
+            medians = {desk: statistics.median(runs) for desk, runs in found.items()}
+            rows.append([len(guard.file), *(f"{median:.2f}" for median in medians.values()), f"{ratio:.2f}"])
+            for desk, median in medians.items():
                 curves.setdefault((name, desk), []).append((len(guard.file), median))
         table.show([f"bytes, {name}", "Rattle, µs", "Rust, µs", "ratio"], rows)
         for desk in short.DESKS:
             start, slope, off = line(curves[name, desk])
-            print(f"{name}, {desk}: {start:.1f} µs and {1000 * slope:.1f} ns a byte, at most {100 * off:.0f} per cent off.\n")
+            fitted = f"{start:.1f} µs and {1000 * slope:.1f} ns a byte, at most {100 * off:.0f} per cent off"
+            print(f"{name}, {desk}: {fitted}.\n")
     return curves

@@ -101,8 +101,8 @@ def unequal(terms, size):
 
 
 def constants(size):
-    """A guard of one node whose types, rows and lines grow with the size, up to 24: constants that differ. The largest is
-    as long as a guard can be."""
+    """A guard of one node whose types, rows and lines grow with the size, up to 24: constants that
+    differ. The largest is as long as a guard can be."""
     many = math.ceil(5 * size / 24)
     types = number(1 + many) + b"\x00" + filled(many, 2 * size)
     # The values take five bytes.
@@ -114,7 +114,8 @@ def lists(size):
     """The same with lists, each but the first built from the one before."""
     many = math.ceil(4 * size / 24)
     types = number(2 + many) + b"\x00\x02\x00\x02\x00\x01" + filled(many, 2 * size - 2)
-    rows = [b"\x00\x00", b"\x00\x01"] + [b"\x02\x01\x01\x00" + number(i - 1) for i in range(2, size)]
+    built = [b"\x02\x01\x01\x00" + number(i - 1) for i in range(2, size)]
+    rows = [b"\x00\x00", b"\x00\x01", *built]
     return types + number(size) + b"".join(rows) + unequal(range(1, size), size)
 
 

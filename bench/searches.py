@@ -1,4 +1,4 @@
-"""The search alone, per node: the program `searchvectors` against the same search in Rust, and the solvers beside them."""
+"""The search alone, per node: the program `searchvectors` against the same search in Rust, and the solvers."""
 
 import statistics
 import sys
@@ -77,9 +77,10 @@ def row(built, guard, options, ratios):
 def times(built, options):
     """Prints the table of times."""
     titles = ["guard", "answer", "Rattle, ns a node", "Rust, ns a node", "ratio", "Rattle, ms"]
+    titles += [f"{solver}, ms" for solver in programs.SOLVERS]
+    wanted = (known(built, guard) for guard in options.guards)
     ratios = []
-    wanted = [known(built, guard) for guard in options.guards]
-    table.show(titles + [f"{solver}, ms" for solver in programs.SOLVERS], (row(built, guard, options, ratios) for guard in wanted))
+    table.show(titles, (row(built, guard, options, ratios) for guard in wanted))
     print(f"Median of the ratios {statistics.median(ratios):.2f}, largest {max(ratios):.2f}.\n")
 
 

@@ -21,10 +21,11 @@ PROCESSES = 12
 
 def sets():
     """The sets of short guards by name."""
-    vectors, samples = guards.short(guards.vectors()), guards.short(guards.samples())
-    by_verdict = {"vectors, SAT": "SAT", "vectors, UNSAT": "UNSAT"}
-    found = {name: [guard for guard in vectors if guard.answer.split()[0] == verdict] for name, verdict in by_verdict.items()}
-    return {"samples": samples, **found}
+    found = {"samples": guards.short(guards.samples())}
+    vectors = guards.short(guards.vectors())
+    for verdict in ("SAT", "UNSAT"):
+        found[f"vectors, {verdict}"] = [guard for guard in vectors if guard.answer.split()[0] == verdict]
+    return found
 
 
 def check(built, some):
@@ -99,12 +100,14 @@ def one_process(built, options):
         medians = {key: statistics.median(runs) for key, runs in found.items()}
         best = min(programs.SOLVERS, key=medians.get)
         cells = [name, len(some), f"{nodes:.1f}", f"{length:.0f}"]
-        cells += [f"{medians['rattle']:.1f}", f"{medians['rust']:.1f}", f"{programs.ratio(found['rattle'], found['rust']):.2f}"]
+        cells += [f"{medians[desk]:.1f}" for desk in DESKS]
+        cells += [f"{programs.ratio(found['rattle'], found['rust']):.2f}"]
         cells += [f"{medians[solver]:.0f}" for solver in programs.SOLVERS]
-        return cells + [f"{programs.ratio(found[best], found['rattle']):.0f} × ({best})"]
+        return cells + [f"{programs.ratio(found[best], found['rattle']):.0f} × {best}"]
 
-    titles = ["guards", "number", "nodes", "bytes", "Rattle, µs", "Rust, µs", "ratio", "z3, µs", "cvc5, µs", "faster than the better"]
-    table.show(titles, map(row, parts))
+    titles = ["guards", "number", "nodes", "bytes", "Rattle, µs", "Rust, µs", "ratio"]
+    titles += [f"{solver}, µs" for solver in programs.SOLVERS]
+    table.show([*titles, "faster than the better"], map(row, parts))
     return {name: statistics.median(runs) for name, runs in found.items()}
 
 
