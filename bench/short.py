@@ -79,19 +79,23 @@ def measured(built, some, options):
 
 
 def together(parts):
-    """The runs of several sets as those of one; each part is the number of guards and the runs."""
-    many = sum(count for count, _ in parts)
-    names = parts[0][1]
-    runs = {name: zip(*([count * run for run in found[name]] for count, found in parts)) for name in names}
-    return many, {name: [sum(run) / many for run in all_runs] for name, all_runs in runs.items()}
+    """The runs of several sets as those of one. A part is guards, and what was measured of them."""
+    counts = [len(some) for some, _ in parts]
+
+    def mean(run):
+        return sum(count * time for count, time in zip(counts, run)) / sum(counts)
+
+    def runs(name):
+        return zip(*(found[name] for _, found in parts))
+
+    return {name: [mean(run) for run in runs(name)] for name in (*DESKS, *programs.SOLVERS)}
 
 
 def one_process(built, options):
     """Prints the table of whole calls; gives the medians of all short guards."""
     parts = {name: (some, measured(built, some, options)) for name, some in sets().items()}
     every = [guard for some, _ in parts.values() for guard in some]
-    _, found = together([(len(some), found) for some, found in parts.values()])
-    parts["all"] = (every, found)
+    parts["all"] = (every, together(list(parts.values())))
 
     def row(name):
         some, found = parts[name]
@@ -108,10 +112,10 @@ def one_process(built, options):
     titles = ["guards", "number", "nodes", "bytes", "Rattle, µs", "Rust, µs", "ratio"]
     titles += [f"{solver}, µs" for solver in programs.SOLVERS]
     table.show([*titles, "faster than the better"], map(row, parts))
-    return {name: statistics.median(runs) for name, runs in found.items()}
+    return {name: statistics.median(runs) for name, runs in parts["all"][1].items()}
 
 
-def instructions(built, options):
+def instructions(built):
     """Prints the instructions of a call: what two passes take more than one."""
 
     def counted(desk, data):
