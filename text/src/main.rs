@@ -3,26 +3,24 @@
 use std::env;
 use std::fs;
 use std::io::{self, Read, Write};
-use std::path::{Path, PathBuf};
 use std::process::ExitCode;
 
 use guardtext::check::Source;
 use guardtext::decode::decode;
-use guardtext::desk::{Answer, Desk, Program};
+use guardtext::desk::{decide, Answer};
 use guardtext::encode::{encode, hex};
 use guardtext::show::show;
 use guardtext::write::write;
 
 const USAGE: &str = "\
-usage: guardtext decide FILE [--budget N] [--desk PATH]  the desk's answer to a text
-       guardtext encode FILE [--hex]                     the guard file of a text
-       guardtext text FILE                               the text of a guard file or its hex
-FILE may be - for standard input. N is 1000000 if not given. PATH is the program guarddesk;
-if not given, target/bin/guarddesk in the repository that this program was built in.";
+usage: guardtext decide FILE [--budget N]  the desk's answer to a text
+       guardtext encode FILE [--hex]       the guard file of a text
+       guardtext text FILE                 the text of a guard file or its hex
+FILE may be - for standard input. N is 1000000 if not given.";
 
 /// Why the program fails.
 enum Failure {
-    /// The command line is wrong, a file can't be read, or the desk can't be asked.
+    /// The command line is wrong, a file can't be read or written, or an answer makes no sense.
     Use(String),
     /// The text or the guard file is wrong.
     Wrong(String),
@@ -55,7 +53,6 @@ struct Options {
     file: String,
     budget: u32,
     hex: bool,
-    desk: PathBuf,
 }
 
 fn run(words: &[String]) -> Result<(), Failure> {
@@ -67,7 +64,6 @@ fn run(words: &[String]) -> Result<(), Failure> {
         file: String::new(),
         budget: 1_000_000,
         hex: false,
-        desk: Path::new(env!("CARGO_MANIFEST_DIR")).join("../target/bin/guarddesk"),
     };
     let mut words = words.iter();
     while let Some(word) = words.next() {
@@ -78,10 +74,6 @@ fn run(words: &[String]) -> Result<(), Failure> {
                 let most = u32::MAX;
                 let why = format!("--budget needs a number from 0 to {most}");
                 options.budget = budget.ok_or_else(|| unclear(&why))?;
-            }
-            ("--desk", "decide") => {
-                let path = words.next().ok_or_else(|| unclear("--desk needs a path"))?;
-                options.desk = PathBuf::from(path);
             }
             (file, _) if options.file.is_empty() && (file == "-" || !file.starts_with('-')) => {
                 options.file = file.to_string();
@@ -125,11 +117,7 @@ fn source(path: &str) -> Result<Source, Failure> {
 fn decide_command(options: &Options) -> Result<(), Failure> {
     let source = source(&options.file)?;
     let file = encode(&source.guard);
-    let desk = Program {
-        path: options.desk.clone(),
-    };
-    let answer = desk.decide(&file.bytes, options.budget);
-    let answer = answer.map_err(Failure::Use)?;
+    let answer = decide(&file.bytes, options.budget);
     let shown = show(&source, &file, &answer).map_err(Failure::Use)?;
     print(shown.as_bytes())?;
     match answer {

@@ -1,20 +1,11 @@
 //! Answers in the author's names.
 
 use guardtext::check::Source;
-use guardtext::desk::{Answer, Desk, Message};
+use guardtext::desk::{Answer, Message};
 use guardtext::encode::encode;
 use guardtext::show::show;
 
 const LISTS: &str = "type Num = number\ntype List = nil | cons(head: Num, tail: List)\n";
-
-/// A desk that knows one answer.
-struct Fixed(Answer);
-
-impl Desk for Fixed {
-    fn decide(&self, _: &[u8], _: u32) -> Result<Answer, String> {
-        Ok(self.0.clone())
-    }
-}
 
 fn read(text: &str) -> Source {
     guardtext::read(text).unwrap_or_else(|fault| panic!("{fault}"))
@@ -23,7 +14,6 @@ fn read(text: &str) -> Source {
 fn answered(text: &str, answer: Answer) -> Result<String, String> {
     let source = read(text);
     let file = encode(&source.guard);
-    let answer = Fixed(answer).decide(&file.bytes, 0)?;
     show(&source, &file, &answer)
 }
 

@@ -1,9 +1,7 @@
 //! The root's state before any rule, as crate `given` makes it.
 
-use oracle::guard::Line;
-use oracle::problem::only;
-
-use crate::problem::{Problem, Term, TERMS};
+use crate::guard::{Line, Term};
+use crate::problem::{Problem, TERMS};
 use crate::state::State;
 
 pub fn given(problem: &Problem) -> State {
@@ -15,7 +13,7 @@ pub fn given(problem: &Problem) -> State {
     }
     for shape in &problem.shapes {
         if shape.kind != 0 && shape.others == 0 {
-            state.restrict(shape.owner, only(usize::from(shape.kind - 1) % 16));
+            state.restrict(shape.owner, 1 << ((shape.kind - 1) % 16));
         }
     }
     for (k, constant) in problem.constants.iter().enumerate() {
@@ -26,14 +24,14 @@ pub fn given(problem: &Problem) -> State {
             }
         }
     }
-    for line in &problem.lines {
+    for line in problem.lines {
         match *line {
             Line::Equal(a, b) => {
-                state.unite(a as Term, b as Term);
+                state.unite(a, b);
             }
             Line::Unequal(..) => {}
-            Line::Is(term, variant) => state.restrict(term as Term, only(variant)),
-            Line::Isnt(term, variant) => state.restrict(term as Term, !only(variant)),
+            Line::Is(term, variant) => state.restrict(term, 1 << variant),
+            Line::Isnt(term, variant) => state.restrict(term, !(1 << variant)),
         }
     }
     state

@@ -1,8 +1,7 @@
 //! The reasons to close a node and its split, as in crate `nodes`.
 
-use oracle::guard::Line;
-
-use crate::problem::{Label, Problem, Term, PLACES, TERMS};
+use crate::guard::{Label, Line, Term};
+use crate::problem::{Problem, PLACES, TERMS};
 use crate::saturation::is_active;
 use crate::state::State;
 
@@ -19,8 +18,7 @@ fn has_empty_label(problem: &Problem, state: &State) -> bool {
 }
 
 fn has_broken_line(problem: &Problem, state: &State) -> bool {
-    let broken =
-        |line: &Line| matches!(*line, Line::Unequal(a, b) if state.equal(a as Term, b as Term));
+    let broken = |line: &Line| matches!(*line, Line::Unequal(a, b) if state.equal(a, b));
     problem.lines.iter().any(broken)
 }
 
@@ -47,7 +45,7 @@ fn has_cycle(problem: &Problem, state: &State) -> bool {
 fn sink_all(problem: &Problem, state: &State, levels: &mut [u8; PLACES]) -> bool {
     let mut any = false;
     for shape in problem.shapes.iter().rev() {
-        let parts = shape.parts().iter();
+        let parts = shape.parts.iter();
         let Some(low) = parts.map(|&part| levels[state.class(part) as usize]).min() else {
             continue;
         };

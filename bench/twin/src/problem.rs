@@ -1,10 +1,8 @@
 //! A guard as the search needs it, with the places of crate `problem`.
 
-use oracle::guard::{Guard, Line};
-use oracle::problem as outside;
+use std::cmp::Ordering;
 
-pub type Term = u8;
-pub type Label = u16;
+use crate::guard::{Few, Guard, Label, Line, Row, Term};
 
 /// Places of a state; the terms are below `TERMS`.
 pub const PLACES: usize = 96;
@@ -13,8 +11,8 @@ pub const ROWS: usize = 24;
 /// Shapes and constants have a slot for each row and for each type's default.
 pub const SLOTS: usize = 30;
 
-/// The term of a default is so much above its slot.
-const DEFAULTS: usize = 72 - ROWS;
+/// The term of the default of type 0.
+const DEFAULTS: Term = 72;
 
 /// A term built by a variant, or one read, which is built where the others have gone.
 #[derive(Clone, Copy, Default)]
@@ -24,19 +22,7 @@ pub struct Shape {
     pub kind: u8,
     /// The variants that must have gone.
     pub others: Label,
-    arity: u8,
-    parts: [Term; 3],
-}
-
-impl Shape {
-    pub fn parts(&self) -> &[Term] {
-        &self.parts[..self.arity as usize]
-    }
-
-    /// All three places, with 0 past the parts.
-    pub fn places(&self) -> [Term; 3] {
-        self.parts
-    }
+    pub parts: Few,
 }
 
 #[derive(Clone, Copy, Default)]
@@ -56,21 +42,20 @@ pub struct Constant {
     pub value: i32,
 }
 
-pub struct Problem {
+pub struct Problem<'g> {
     pub shapes: [Shape; SLOTS],
     pub reads: [Read; ROWS],
     /// The type of each term, plus one.
     pub sorts: [u8; PLACES],
     /// By type plus one: all variants, and the fieldless ones.
-    pub full: [Label; 8],
-    pub fieldless: [Label; 8],
+    full: [Label; 8],
+    fieldless: [Label; 8],
     pub constants: [Constant; SLOTS],
-    pub lines: Vec<Line>,
+    pub lines: &'g [Line],
 }
 
-impl Problem {
-    pub fn new(guard: &Guard) -> Problem {
-        let outside = outside::Problem::new(guard);
+impl<'g> Problem<'g> {
+    pub fn new(guard: &'g Guard) -> Problem<'g> {
         let mut problem = Problem {
             shapes: Default::default(),
             reads: Default::default(),
@@ -78,37 +63,76 @@ impl Problem {
             full: [0; 8],
             fieldless: [0; 8],
             constants: Default::default(),
-            lines: guard.lines.clone(),
+            lines: &guard.lines,
         };
-        for built in &outside.built {
-            problem.shapes[slot(built.term)] = shape(built, 0);
-        }
-        for read in &outside.reads {
-            let whole = &read.whole;
-            let variant = outside::only(whole.variant);
-            problem.shapes[read.row] = shape(whole, !variant);
-            problem.reads[read.row] = Read {
-                term: whole.term as Term,
-                key: (1 + 64 * whole.ty + 4 * whole.variant + read.position) as u16,
-                variant,
-                default: read.default as Term,
-            };
-        }
-        for constant in &outside.constants {
-            problem.constants[slot(constant.term)] = Constant {
-                term: constant.term as Term,
-                sort: 1 + constant.ty as u8,
-                value: constant.value,
-            };
-        }
-        for (sort, ty) in problem.sorts.iter_mut().zip(&outside.types) {
-            *sort = ty.map_or(0, |ty| 1 + ty as u8);
+        for row in 0..guard.rows.len() {
+            problem.add_row(guard, row as Term);
         }
         for ty in 0..guard.types.len() {
-            problem.full[1 + ty] = outside.all_variants(ty);
-            problem.fieldless[1 + ty] = outside.fieldless[ty];
+            problem.add_type(guard, ty as u8);
         }
         problem
+    }
+
+    fn add_row(&mut self, guard: &Guard, row: Term) {
+        let slot = usize::from(row);
+        let ty = guard.row_types[slot];
+        self.sorts[slot] = 1 + ty;
+        match guard.rows[slot] {
+            Row::Variable => {}
+            Row::Constant(value) => self.constants[slot] = constant(row, ty, value),
+            Row::Built { variant, parts } => self.shapes[slot] = shape(row, ty, variant, 0, parts),
+            Row::Read {
+                term,
+                variant,
+                position,
+            } => self.add_read(guard, row, term, variant, position),
+        }
+    }
+
+    fn add_read(&mut self, guard: &Guard, row: Term, term: Term, variant: u8, position: u8) {
+        let slot = usize::from(row);
+        let ty = guard.row_types[usize::from(term)];
+        let siblings = ROWS as Term + 2 * row;
+        let mut parts = Few::default();
+        for (&field, place) in guard.fields(ty, variant).iter().zip(0..) {
+            let part = match place.cmp(&position) {
+                Ordering::Less => siblings + place,
+                Ordering::Equal => row,
+                Ordering::Greater => siblings + place - 1,
+            };
+            self.sorts[usize::from(part)] = 1 + field;
+            parts.push(part);
+        }
+        let only = 1 << variant;
+        self.shapes[slot] = shape(term, ty, variant, !only, parts);
+        self.reads[slot] = Read {
+            term,
+            key: 1 + 64 * u16::from(ty) + 4 * u16::from(variant) + u16::from(position),
+            variant: only,
+            default: DEFAULTS + guard.row_types[slot],
+        };
+    }
+
+    /// The labels of a type, and its default.
+    fn add_type(&mut self, guard: &Guard, t: u8) {
+        let ty = &guard.types[usize::from(t)];
+        let sort = 1 + usize::from(t);
+        self.full[sort] = ty.label(|_| true);
+        self.fieldless[sort] = ty.label(|fields| fields.is_empty());
+        let term = DEFAULTS + t;
+        self.sorts[usize::from(term)] = 1 + t;
+        let slot = ROWS + usize::from(t);
+        if ty.is_number() {
+            self.constants[slot] = constant(term, t, 0);
+            return;
+        }
+        let variant = guard.defaults[usize::from(t)];
+        let mut parts = Few::default();
+        for &field in guard.fields(t, variant).iter() {
+            parts.push(DEFAULTS + field);
+        }
+        self.shapes[slot] = shape(term, t, variant, 0, parts);
     }
 
     /// The fieldless variants of a term's type.
@@ -122,24 +146,19 @@ impl Problem {
     }
 }
 
-fn slot(term: usize) -> usize {
-    if term < ROWS {
-        term
-    } else {
-        term - DEFAULTS
+fn constant(term: Term, ty: u8, value: i32) -> Constant {
+    Constant {
+        term,
+        sort: 1 + ty,
+        value,
     }
 }
 
-fn shape(built: &outside::Built, others: Label) -> Shape {
-    let mut parts = [0; 3];
-    for (place, &part) in parts.iter_mut().zip(&built.parts) {
-        *place = part as Term;
-    }
+fn shape(owner: Term, ty: u8, variant: u8, others: Label, parts: Few) -> Shape {
     Shape {
-        owner: built.term as Term,
-        kind: (1 + 16 * built.ty + built.variant) as u8,
+        owner,
+        kind: 1 + 16 * ty + variant,
         others,
-        arity: built.parts.len() as u8,
         parts,
     }
 }

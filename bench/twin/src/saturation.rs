@@ -1,8 +1,7 @@
 //! The closure of a node: the passes of crate `saturation`, in its order.
 
-use oracle::problem::is_alone;
-
-use crate::problem::{Problem, Read, Shape, Term, SLOTS, TERMS};
+use crate::guard::Term;
+use crate::problem::{Problem, Read, Shape, SLOTS, TERMS};
 use crate::state::State;
 
 /// Adds what the rules give until nothing is new.
@@ -73,8 +72,10 @@ fn enter(
     only_is(problem, state, first, variant) && state.unite(first, term)
 }
 
-fn only_is(problem: &Problem, state: &State, term: Term, variant: usize) -> bool {
-    problem.fieldless(term) >> variant & 1 == 1 && is_alone(state.label(term), variant)
+/// Whether a fieldless variant is all that is left of a term's label; an empty label counts
+/// as each one variant alone.
+pub fn only_is(problem: &Problem, state: &State, term: Term, variant: usize) -> bool {
+    problem.fieldless(term) >> variant & 1 == 1 && state.label(term) & !(1 << variant) == 0
 }
 
 /// Whether a shape is there, and no other variant is left of its owner's label.
@@ -97,7 +98,7 @@ impl Keys {
         };
         for (k, shape) in problem.shapes.iter().enumerate() {
             if is_active(state, shape) {
-                let [a, b, c] = shape.places().map(|part| state.class(part));
+                let [a, b, c] = shape.parts.places().map(|part| state.class(part));
                 keys.parts[k] = u32::from_be_bytes([shape.kind, a, b, c]);
                 keys.owners[k] =
                     256 * u32::from(shape.kind) + u32::from(state.class(shape.owner)) + 1;
@@ -139,7 +140,7 @@ fn meet_shapes(state: &mut State, shape: &Shape, before: &Shape) -> bool {
     if before.kind != shape.kind || !is_active(state, before) {
         return false;
     }
-    let mut parts = before.parts().iter().zip(shape.parts());
+    let mut parts = before.parts.iter().zip(shape.parts.iter());
     if state.equal(before.owner, shape.owner) {
         let mut changed = false;
         for (&a, &b) in parts {

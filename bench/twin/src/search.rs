@@ -13,8 +13,11 @@ pub enum Outcome {
     Spent,
 }
 
-pub fn search(problem: &Problem, budget: u32) -> Outcome {
-    visit(problem, &mut given(problem), budget)
+/// The outcome, and the state of the open node where one was found.
+pub fn search(problem: &Problem, budget: u32) -> (Outcome, State) {
+    let mut state = given(problem);
+    let outcome = visit(problem, &mut state, budget);
+    (outcome, state)
 }
 
 /// A node: its closure, then closed, open, or its children, "is" before "isn't". The state

@@ -1,7 +1,8 @@
 //! The state of a node, as crate `classes` has it: the class of each term, named by its
 //! lowest member, and the label of each class.
 
-use crate::problem::{Label, Term, PLACES};
+use crate::guard::{Label, Term};
+use crate::problem::PLACES;
 
 #[derive(Clone)]
 pub struct State {
