@@ -15,10 +15,9 @@ use Rattle.laws.proofs.Bools.{and-both, by-test, cond-ind}
 use Rattle.guard.specs.Closure.{Fact.same, Fact.within, State, add, eqZ, everyVariant}
 use Rattle.guard.proofs.ClosureBelow.{eqZ-true}
 use Rattle.guard.proofs.LeastClosure.{eqZ-of}
-use Rattle.saturation.specs.Due.{kindAt, othersAt, ownerAt, sortAt}
-use Rattle.saturation.proofs.DueLaws.{is-nonzero}
-use Rattle.saturation.proofs.Joins.{second-decides}
-use Rattle.saturation.proofs.Tests.{and-false}
+use Rattle.slots.specs.Slots.{kindAt, othersAt, ownerAt, sortAt}
+use Rattle.slots.proofs.DueLaws.{is-nonzero}
+use Rattle.slots.proofs.Tests.{and-false, second-decides}
 use Rattle.given.specs.Facts.{allVariantsAt, constantTerm, constantValue, constantsMeet, factOf, isBuild, oneVariantAt, sameConstant, variantAt}
 use Rattle.given.proofs.Adding.{not-added, one-added}
 

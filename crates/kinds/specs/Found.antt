@@ -6,7 +6,7 @@ use Prim.Native.Nat.{ℕ}
 use lib.Dec.{eqb, ltb}
 use Rattle.guard.specs.Closure.{State, classOf, labelOf}
 use Rattle.guard.specs.Limits.{variantLimit}
-use Rattle.saturation.specs.Due.{active, onlyIs, ownerAt}
+use Rattle.slots.specs.Slots.{active, onlyIs, ownerAt}
 use Rattle.given.specs.Facts.{isConstant}
 use Rattle.nodes.specs.Choice.{lowestIn}
 use Rattle.nodes.specs.Lowest.{lowest}

@@ -16,7 +16,7 @@ use Rattle.laws.proofs.Lists.{any-some, from-bounds}
 use Rattle.guard.specs.Closure.{eqZ}
 use Rattle.guard.proofs.ClosureBelow.{eqZ-true}
 use Rattle.guard.proofs.LeastClosure.{eqZ-of}
-use Rattle.saturation.proofs.DueLaws.{is-nonzero, nonzero-is}
+use Rattle.slots.proofs.DueLaws.{is-nonzero, nonzero-is}
 use Rattle.given.specs.Facts.{constantValue}
 use Rattle.nodes.specs.Lowest.{lowest}
 use Rattle.nodes.specs.Reasons.{constantClass, unlike, unlikeAt, unlikeBefore}

@@ -22,14 +22,15 @@ use Rattle.guard.specs.WellFormed.{WellFormed}
 use Rattle.guard.proofs.ClosureBelow.{InRange, all-builds}
 use Rattle.guard.proofs.ClosureState.{Small}
 use Rattle.guard.proofs.TableLaws.{few-rows, table-in-range}
-use Rattle.classes.specs.Held.{Held}
 use Rattle.models.proofs.Ranks.{few-builds, from-class, rank-part, rankOf}
-use Rattle.problem.specs.Problem.{shapesOf}
 use Rattle.tables.specs.Layout.{flat}
-use Rattle.saturation.specs.Due.{manyAt}
-use Rattle.saturation.proofs.DueLaws.{when-is}
-use Rattle.saturation.proofs.GuardSlots.{shape-slots}
-use Rattle.saturation.proofs.ShapesFollow.{ActiveSlot, BuildSlot, ShapeSlots, active-build, build-active}
+use Rattle.classes.specs.Held.{Held}
+use Rattle.problem.specs.Problem.{shapesOf}
+use Rattle.slots.specs.Slots.{manyAt}
+use Rattle.slots.proofs.DueLaws.{when-is}
+use Rattle.slots.proofs.GuardSlots.{shape-slots}
+use Rattle.slots.proofs.ActiveSlots.{ActiveSlot, BuildSlot, active-build, build-active}
+use Rattle.slots.proofs.TableSlots.{ShapeSlots}
 use Rattle.nodes.specs.Ranks.{ownClass, partClass, rankingOf}
 use Rattle.nodes.proofs.Loops.{both}
 use Rattle.nodes.proofs.RankLaws.{heights-rank, ranks-fall}

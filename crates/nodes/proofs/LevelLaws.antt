@@ -17,7 +17,7 @@ use Rattle.laws.proofs.Lists.{any-none, any-some, from-bounds, mem-from}
 use Rattle.laws.proofs.Stores.{set-cases, set-ind, sum-set-le, sum-set-lt}
 use Rattle.guard.specs.Closure.{State}
 use Rattle.classes.specs.Held.{Held}
-use Rattle.saturation.specs.Due.{active, manyAt, ownerAt, partAt}
+use Rattle.slots.specs.Slots.{active, manyAt, ownerAt, partAt}
 use Rattle.nodes.specs.Levels.{InOrder, LastInOrder, LowestPart, Sinks, Sinks.done, Sinks.then, Sunk, bottomed, ownLevel, partLevel, topLevels}
 use Rattle.nodes.specs.Ranks.{ownClass, partClass, rankingOf}
 use Rattle.nodes.proofs.Loops.{any-snoc, or-none}

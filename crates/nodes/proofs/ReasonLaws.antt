@@ -24,15 +24,15 @@ use Rattle.guard.specs.WellFormed.{WellFormed}
 use Rattle.guard.proofs.ClosureBelow.{eqZ-true}
 use Rattle.guard.proofs.LeastClosure.{eqZ-of}
 use Rattle.guard.proofs.TableLaws.{const-inv, term-default, term-row}
-use Rattle.classes.specs.Held.{Held}
-use Rattle.problem.specs.Problem.{constantsOf, fieldlessOf, fullOf, sortsOf}
-use Rattle.problem.proofs.SlotLaws.{full-at, full-none}
 use Rattle.tables.specs.Layout.{flat, literalKind, literalOther, literalTable, literalTerm, pad, rowTable}
 use Rattle.tables.proofs.Columns.{pad-get}
 use Rattle.tables.proofs.Lookups.{map-at}
-use Rattle.saturation.specs.Due.{sortAt}
-use Rattle.saturation.proofs.GuardSlots.{sort-slots}
-use Rattle.saturation.proofs.SinglesFollow.{SortSlots}
+use Rattle.classes.specs.Held.{Held}
+use Rattle.problem.specs.Problem.{constantsOf, fieldlessOf, fullOf, sortsOf}
+use Rattle.problem.proofs.SlotLaws.{full-at, full-none}
+use Rattle.slots.specs.Slots.{sortAt}
+use Rattle.slots.proofs.GuardSlots.{sort-slots}
+use Rattle.slots.proofs.TableSlots.{SortSlots}
 use Rattle.given.specs.Facts.{constantTerm, constantValue}
 use Rattle.given.proofs.ConstantSlots.{ConstantSlot, ConstantSlots, constant-slots}
 use Rattle.nodes.specs.Lowest.{lowest}

@@ -8,7 +8,7 @@ use native.Mathlib.Numerals.{add-one}
 use native.Mathlib.Omega.{arith}
 use lib.ListN.{set}
 use Rattle.guard.specs.Closure.{State}
-use Rattle.saturation.specs.Due.{active}
+use Rattle.slots.specs.Slots.{active}
 use Rattle.nodes.specs.Ranks.{Ranking, low, noRanks, ownClass, partAbove, raised, raisedTo, raisesTo, rankFrom, rankingOf}
 use Rattle.nodes.proofs.Loops.{or-none}
 use Rattle.nodes.proofs.Tests.{and-no, no-and}

@@ -24,16 +24,15 @@ use Rattle.guard.specs.Terms.{Read, Table, Term, fieldless, tableOf}
 use Rattle.guard.specs.Types.{variantsOf}
 use Rattle.guard.specs.WellFormed.{WellFormed}
 use Rattle.guard.proofs.ClosureState.{Small}
+use Rattle.tables.specs.Layout.{flat}
 use Rattle.labels.specs.Label.{variantsIn}
 use Rattle.labels.proofs.LabelLaws.{lacks-test, shifted-one}
 use Rattle.problem.specs.Problem.{fieldlessOf, maskOf, readsOf, sortsOf}
-use Rattle.tables.specs.Layout.{flat}
-use Rattle.saturation.specs.Due.{fieldlessAt, readBit, readKey, readTerm, sortAt}
-use Rattle.saturation.proofs.GuardSlots.{read-slots, sort-slots}
-use Rattle.saturation.proofs.MaskLaws.{bit-fieldless, fieldless-bit}
-use Rattle.saturation.proofs.OnlyOne.{one-left}
-use Rattle.saturation.proofs.ReadsFollow.{ReadSlot, ReadSlots}
-use Rattle.saturation.proofs.SinglesFollow.{SortSlots}
+use Rattle.slots.specs.Slots.{fieldlessAt, readBit, readKey, readTerm, sortAt}
+use Rattle.slots.proofs.GuardSlots.{read-slots, sort-slots}
+use Rattle.slots.proofs.MaskLaws.{bit-fieldless, fieldless-bit}
+use Rattle.slots.proofs.OnlyOne.{one-left}
+use Rattle.slots.proofs.TableSlots.{ReadSlot, ReadSlots, SortSlots}
 use Rattle.nodes.specs.Choice.{lowestIn, onReadAt, onTermAt, readSplits, splitAt, splitBy, termSplits}
 use Rattle.nodes.specs.Lowest.{lowest}
 use Rattle.nodes.proofs.Loops.{both}

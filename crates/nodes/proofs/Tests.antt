@@ -12,7 +12,7 @@ use borrow.Author.Tests.{eq-eqb, ne-eqb, le-leb, lt-leb}
 use Rattle.laws.specs.Lists.{any, from}
 use Rattle.guard.specs.Closure.{State, eqZ, labelOf}
 use Rattle.labels.specs.Label.{variantsIn}
-use Rattle.saturation.specs.Due.{fieldlessAt, manyAt, readBit, readKey, readTerm, sortAt}
+use Rattle.slots.specs.Slots.{fieldlessAt, manyAt, readBit, readKey, readTerm, sortAt}
 use Rattle.given.specs.Facts.{constantValue}
 use Rattle.nodes.specs.Choice.{readSplits, termSplits}
 use Rattle.nodes.specs.Ranks.{isAbove, ownClass, partAbove, partClass}

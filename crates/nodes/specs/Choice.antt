@@ -9,7 +9,7 @@ use lib.ListN.{length, getD}
 use Rattle.guard.specs.Closure.{State, labelOf}
 use Rattle.guard.specs.Node.{Split}
 use Rattle.labels.specs.Label.{variantsIn}
-use Rattle.saturation.specs.Due.{fieldlessAt, readBit, readKey, readTerm}
+use Rattle.slots.specs.Slots.{fieldlessAt, readBit, readKey, readTerm}
 use Rattle.nodes.specs.Lowest.{lowest}
 use Rattle.nodes.specs.declared.Choice.{Choice}
 

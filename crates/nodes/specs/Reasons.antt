@@ -8,7 +8,7 @@ use lib.IntN.{ℤ}
 use lib.ListN.{getD}
 use Rattle.laws.specs.Lists.{any, from}
 use Rattle.guard.specs.Closure.{State, eqZ, labelOf}
-use Rattle.saturation.specs.Due.{sortAt}
+use Rattle.slots.specs.Slots.{sortAt}
 use Rattle.given.specs.Facts.{constantTerm, constantValue, isConstant}
 use Rattle.nodes.specs.Lowest.{lowest}
 use Rattle.nodes.specs.Ranks.{rankingOf}

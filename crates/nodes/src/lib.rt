@@ -6,7 +6,7 @@ ghost use Prim.Native.Nat.{_<_, _≤_};
 ghost use lib.ListN.{getD};
 ghost use Rattle.guard.specs.Closure.{labelOf};
 ghost use Rattle.classes.specs.Held.{Held, state};
-ghost use Rattle.saturation.specs.Due.{ReadsFit, ShapesFit, SortsFit, manyAt};
+ghost use Rattle.slots.specs.Slots.{ReadsFit, ShapesFit, SortsFit, manyAt};
 ghost use Rattle.nodes.specs.Lowest.{lowest};
 ghost use Rattle.nodes.specs.Reasons.{LinesFit, brokenAt, closedBy, constantClass, emptyAt, unlike, unlikeAt, unlikeBefore};
 ghost use Rattle.nodes.specs.Levels.{InOrder, LastInOrder, LowestPart, Sunk, bottomed};
@@ -207,14 +207,14 @@ fn part_above(classes: &[u8; 96], shapes: &[u16; 256], ranks: &[u8; 96], k: usiz
     requires { ⌜ ShapesFit (now shapes) ⌝ }
     ensures { λ r. ⌜ r ≡ partAbove (now (shapes .entry)) (now (classes .entry)) (now (ranks .entry)) k ⌝ }
 {
-    let many = saturation::many(shapes, k);
+    let many = slots::many(shapes, k);
     if many == 0 {
         return false;
     }
-    let own = rank_at(classes, ranks, saturation::owner(shapes, k));
+    let own = rank_at(classes, ranks, slots::owner(shapes, k));
     let mut p: usize = 0;
     while p < many {
-        if own <= rank_at(classes, ranks, saturation::part(shapes, k, p)) {
+        if own <= rank_at(classes, ranks, slots::part(shapes, k, p)) {
             return true;
         }
         p += 1;
@@ -240,10 +240,10 @@ fn raise(
     if !part_above(classes, shapes, ranks, k) {
         return false;
     }
-    if !saturation::active(classes, labels, shapes, k) {
+    if !slots::active(classes, labels, shapes, k) {
         return false;
     }
-    let c = wide(classes::class_of(classes, saturation::owner(shapes, k)));
+    let c = wide(classes::class_of(classes, slots::owner(shapes, k)));
     ranks[c] = round;
     true
 }
@@ -317,10 +317,10 @@ fn lowest_part(
     requires { ⌜ (many ≡ manyAt (now shapes) k) × (0 < many) ⌝ }
     ensures { λ r. ⌜ LowestPart (now (shapes .entry)) (now (classes .entry)) (now (levels .entry)) k many r ⌝ }
 {
-    let mut low = rank_at(classes, levels, saturation::part(shapes, k, 0));
+    let mut low = rank_at(classes, levels, slots::part(shapes, k, 0));
     let mut p: usize = 1;
     while p < many {
-        let level = rank_at(classes, levels, saturation::part(shapes, k, p));
+        let level = rank_at(classes, levels, slots::part(shapes, k, p));
         if level < low {
             low = level;
         }
@@ -335,7 +335,7 @@ fn own_class(classes: &[u8; 96], shapes: &[u16; 256], k: usize) -> usize
     requires { ⌜ ShapesFit (now shapes) ⌝ }
     ensures { λ r. ⌜ r ≡ ownClass (now (shapes .entry)) (now (classes .entry)) k ⌝ }
 {
-    wide(classes::class_of(classes, saturation::owner(shapes, k)))
+    wide(classes::class_of(classes, slots::owner(shapes, k)))
 }
 
 // The class of shape k sinks to one below its lowest part if it is not below it; true if so.
@@ -351,7 +351,7 @@ fn sink(
     requires { ⌜ ShapesFit (now shapes) ⌝ }
     ensures { λ r. ⌜ Sunk (now (shapes .entry)) (state (now (classes .entry)) (now (labels .entry))) (InOrder (now (shapes .entry)) (state (now (classes .entry)) (now (labels .entry))) k) (now (levels .entry)) (now (levels .exit)) r ⌝ }
 {
-    let many = saturation::many(shapes, k);
+    let many = slots::many(shapes, k);
     if many == 0 {
         return false;
     }
@@ -363,7 +363,7 @@ fn sink(
     if levels[c] < low {
         return false;
     }
-    if !saturation::active(classes, labels, shapes, k) {
+    if !slots::active(classes, labels, shapes, k) {
         return false;
     }
     levels[c] = low - 1;

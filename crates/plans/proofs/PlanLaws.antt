@@ -41,8 +41,8 @@ use Rattle.models.proofs.TypedTable.{termType}
 use Rattle.tables.specs.Layout.{flat}
 use Rattle.classes.specs.Held.{Held}
 use Rattle.problem.specs.Problem.{constantsOf, shapesOf}
-use Rattle.saturation.proofs.GuardSlots.{shape-slots}
-use Rattle.saturation.proofs.ShapesFollow.{build-active}
+use Rattle.slots.proofs.GuardSlots.{shape-slots}
+use Rattle.slots.proofs.ActiveSlots.{build-active}
 use Rattle.given.proofs.ConstantSlots.{constant-slots}
 use Rattle.nodes.specs.Ranks.{ownClass, partClass, rankingOf}
 use Rattle.nodes.proofs.CycleLaws.{inside-same}

@@ -4,8 +4,8 @@ use mathlib.Core.Option.{some}
 use Prim.Native.Nat.{ℕ}
 use native.Mathlib.Omega.{arith}
 use borrow.Author.Needs.{needs}
+use Rattle.slots.proofs.OnlyOne.{lowest-most}
 use Rattle.nodes.specs.Choice.{choiceOf}
-use Rattle.saturation.proofs.OnlyOne.{lowest-most}
 use Rattle.nodes.proofs.decide.Statement.{statement}
 use Rattle.nodes.proofs.decide.Tie as tie
 

@@ -5,7 +5,7 @@ use Prim.Native.Nat.{ℕ}
 use native.Mathlib.Omega.{arith}
 use borrow.Author.Needs.{needs}
 use Rattle.classes.specs.Held.{state}
-use Rattle.saturation.specs.Due.{readBit}
+use Rattle.slots.specs.Slots.{readBit}
 use Rattle.nodes.specs.Choice.{choiceOf, lowestIn}
 use Rattle.nodes.proofs.Splits.{first-found, none-found, second-found}
 use Rattle.nodes.proofs.split.Statement.{statement}
