@@ -10,28 +10,28 @@ use Rattle.laws.specs.Lists.{all, from, when}
 use Rattle.laws.proofs.Bools.{by-test}
 use Rattle.laws.proofs.Lists.{all-true, all-true-inv, from-bounds, mem-from}
 use Rattle.guard.specs.Closure.{Fact.same, State, sameClass}
+use Rattle.loops.proofs.Tests.{no-and, yes-and}
 use Rattle.passes.proofs.PassLaws.{none-due}
 use Rattle.slots.specs.Slots.{active, kindAt, manyAt, ownerAt, partAt}
-use Rattle.slots.proofs.Tests.{and-false, and-true}
 use Rattle.congruence.specs.Due.{alike, ownersDue, partDue, partsDue, sameParts, shapeDue, shapesMeet}
 
 module _ (shapes : List ℕ) (s : State) (k : ℕ) where
   module _ (i : ℕ) where
     pub other-kind : ¬ (kindAt shapes k ≡ kindAt shapes i) → false ≡ alike shapes s k i
     unfolding alike
-    other-kind n = sym (and-false _ _ (ne-eqb _ _ n))
+    other-kind n = no-and _ (ne-eqb _ _ n)
 
     pub not-active : kindAt shapes k ≡ kindAt shapes i → active shapes s k ≡ false → false ≡ alike shapes s k i
     unfolding alike
-    not-active e n = sym (and-false _ _ n) ∙ and-true _ _ (eq-eqb _ _ e)
+    not-active e n = no-and _ n ∙ yes-and _ (eq-eqb _ _ e)
 
     pub both-active : kindAt shapes k ≡ kindAt shapes i → active shapes s k ≡ true → active shapes s i ≡ alike shapes s k i
     unfolding alike
-    both-active e a = and-true _ _ a ∙ and-true _ _ (eq-eqb _ _ e)
+    both-active e a = yes-and _ a ∙ yes-and _ (eq-eqb _ _ e)
 
     pub inactive-alike : active shapes s k ≡ false → alike shapes s k i ≡ false
     unfolding alike
-    inactive-alike n = by-test (eqb (kindAt shapes k) (kindAt shapes i)) (λ e. sym (and-true _ _ e) ∙ and-false _ _ n) (λ e. and-false _ _ e)
+    inactive-alike n = by-test (eqb (kindAt shapes k) (kindAt shapes i)) (λ e. sym (yes-and _ e) ∙ sym (no-and _ n)) (λ e. sym (no-and _ e))
 
     -- the parts up to one are the same
     abbrev pub SameUpTo : ℕ → Type 0
@@ -51,11 +51,11 @@ module _ (shapes : List ℕ) (s : State) (k : ℕ) where
     -- shapes that are not of one variant say nothing of each other
     pub unlike-owners : alike shapes s k i ≡ false → ownersDue shapes s k i ≡ []
     unfolding ownersDue
-    unlike-owners e = ap (λ (b : Bool). when b (same (ownerAt shapes i) (ownerAt shapes k) ∷ [])) (and-false _ _ e)
+    unlike-owners e = ap (λ (b : Bool). when b (same (ownerAt shapes i) (ownerAt shapes k) ∷ [])) (sym (no-and _ e))
 
     pub unlike-parts : alike shapes s k i ≡ false → partsDue shapes s k i ≡ []
     unfolding partsDue partDue
-    unlike-parts e = none-due (λ p x. partDue shapes x k i p) (from (manyAt shapes k) 0) s (λ p m. ap (λ (b : Bool). when b (same (partAt shapes i p) (partAt shapes k p) ∷ [])) (and-false _ _ e))
+    unlike-parts e = none-due (λ p x. partDue shapes x k i p) (from (manyAt shapes k) 0) s (λ p m. ap (λ (b : Bool). when b (same (partAt shapes i p) (partAt shapes k p) ∷ [])) (sym (no-and _ e)))
 
     pub unlike : alike shapes s k i ≡ false → shapesMeet shapes s k i ≡ []
     unfolding shapesMeet

@@ -9,6 +9,7 @@ use native.Mathlib.Omega.{arith}
 use lib.Dec.{eqb, ltb}
 use lib.ListN.{getD, length, length-replicate, length-set, replicate, set}
 use lib.Seq.{getD-set-same, getD-set-other}
+use borrow.Author.Count.{below-more}
 use borrow.Author.Tests.{eq-eqb, eqb-false, eqb-true, ltb-false, ltb-true}
 use Rattle.laws.specs.All.{All, All.none}
 use Rattle.laws.specs.Lists.{from}
@@ -19,7 +20,6 @@ use Rattle.passes.specs.Pass.{Due, Pass}
 use Rattle.passes.proofs.PassLaws.{one-more, settled, steps-more, upTo}
 use Rattle.slots.specs.Slots.{ShapesFit, active, kindAt, manyAt, ownerAt, partAt}
 use Rattle.slots.proofs.DueLaws.{quiet-one}
-use Rattle.slots.proofs.Tests.{one-further}
 use Rattle.congruence.specs.Due.{alike, ownersDue, partDue, partsDue, sameOwners, sameParts, shapeDue, shapesMeet}
 use Rattle.congruence.proofs.Tests.{inactive, unlike}
 use Rattle.keys.specs.Keys.{Agreed, Keyed, Quiet, kindByte, ownerKey, partsKey}
@@ -147,7 +147,7 @@ pub agreed-next : (parts owners : List ℕ) (k i : ℕ) (any : Bool) → (any �
     → (any || not (Bool·beq (eqb (getD parts i 0) (getD parts k 0)) (eqb (getD owners i 0) (getD owners k 0)))) ≡ false → Agreed parts owners k (i + 1)
 agreed-next parts owners k i any h e =
     let (earlier, here) = or-false any (not (Bool·beq (eqb (getD parts i 0) (getD parts k 0)) (eqb (getD owners i 0) (getD owners k 0)))) e in
-    one-further (λ j. eqb (getD parts j 0) (getD parts k 0) ≡ eqb (getD owners j 0) (getD owners k 0)) i (h earlier) (go (eqb (getD parts i 0) (getD parts k 0)) (eqb (getD owners i 0) (getD owners k 0)) here)
+    below-more (λ j. eqb (getD parts j 0) (getD parts k 0) ≡ eqb (getD owners j 0) (getD owners k 0)) i (h earlier) (go (eqb (getD parts i 0) (getD parts k 0)) (eqb (getD owners i 0) (getD owners k 0)) here)
   where
     go : (a b : Bool) → not (Bool·beq a b) ≡ false → a ≡ b
     go true true q = refl

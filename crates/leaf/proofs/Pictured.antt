@@ -34,7 +34,7 @@ use Rattle.tables.proofs.Lookups.{map-at}
 use Rattle.problem.specs.Problem.{constantsOf, fieldlessOf, kindNumber, shapesOf, sortsOf}
 use Rattle.slots.specs.Slots.{manyAt, partAt}
 use Rattle.given.specs.Facts.{constantValue}
-use Rattle.nodes.specs.Choice.{lowestIn}
+use Rattle.splits.specs.Choice.{lowestIn}
 use Rattle.rowstore.proofs.RowLaws.{belongs-type}
 use Rattle.kinds.specs.Found.{constantOf, isShape, singleOf}
 use Rattle.kinds.proofs.KindLaws.{ConstantClass, ShapeClass, SingleClass, found-constant, found-single, kind, shape-class}

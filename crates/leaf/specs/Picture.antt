@@ -15,7 +15,7 @@ use Rattle.growth.proofs.Plans.{plannedMessage}
 use Rattle.problem.specs.Problem.{kindNumber}
 use Rattle.slots.specs.Slots.{kindAt, manyAt, partAt, sortAt}
 use Rattle.given.specs.Facts.{constantValue}
-use Rattle.nodes.specs.Choice.{lowestIn}
+use Rattle.splits.specs.Choice.{lowestIn}
 use Rattle.kinds.specs.Found.{constantOf, isShape, singleOf}
 use Rattle.plans.specs.Plans.{OpenState, isFree, marked, planFor, stateOf, typeFor}
 

@@ -15,7 +15,7 @@ use Rattle.problem.specs.Columns.{problemBy}
 use Rattle.problem.proofs.ProblemLaws.{problem-is}
 use Rattle.slots.specs.Slots.{ShapesFit}
 use Rattle.slots.proofs.GuardSlots.{shapes-fit}
-use Rattle.nodes.specs.Ranks.{rankingOf}
+use Rattle.ranks.specs.Ranks.{rankingOf}
 use Rattle.search.specs.Nodes.{Accepted}
 use Rattle.needed.specs.Needed.{Marks}
 use Rattle.messages.specs.Rows.{LeafOf}

@@ -26,8 +26,8 @@ use Rattle.problem.specs.Problem.{constantsOf, fieldlessOf, kindNumber, shapesO
 use Rattle.slots.specs.Slots.{ShapesFit, SortsFit, active, kindAt, manyAt, partAt}
 use Rattle.slots.proofs.GuardSlots.{shape-slots, shapes-fit, sorts-fit}
 use Rattle.slots.proofs.TableSlots.{Shaped, Shaped.of-build, Shaped.of-read}
-use Rattle.nodes.specs.Ranks.{rankingOf}
-use Rattle.nodes.proofs.RankLaws.{ranks-fall, ranks-small}
+use Rattle.ranks.specs.Ranks.{rankingOf}
+use Rattle.ranks.proofs.RankLaws.{ranks-fall, ranks-small}
 use Rattle.search.specs.Nodes.{Accepted, NodeLiterals, NodeLiterals.atIs, NodeLiterals.atIsnt, NodeLiterals.atRoot, OpenLeaf}
 use Rattle.search.proofs.ClosedState.{literals-in}
 use Rattle.kinds.specs.Found.{isShape}

@@ -24,7 +24,7 @@ use Rattle.reader.specs.Reader.{guardTables}
 use Rattle.classes.specs.Held.{Held, state}
 use Rattle.problem.specs.Problem.{constantsOf, fieldlessOf, fullOf, readsOf, shapesOf, sortsOf}
 use Rattle.slots.specs.Slots.{ReadsFit, ShapesFit, SortsFit}
-use Rattle.nodes.specs.Reasons.{LinesFit}
+use Rattle.reasons.specs.Reasons.{LinesFit}
 use Rattle.search.specs.declared.Outcome.{Outcome}
 use Rattle.search.specs.Outcome.{isOpenOutcome, outcome}
 

@@ -1,7 +1,7 @@
 // Readers of the arrays that the search reads: what stands in each slot, and what a state says of it.
 ghost use mathlib.Core.Path.{_≡_};
 ghost use Prim.Native.Nat.{_<_};
-ghost use Rattle.guard.specs.Closure.{sameClass};
+ghost use Rattle.guard.specs.Closure.{labelOf, sameClass};
 ghost use Rattle.classes.specs.Held.{Held, state};
 ghost use Rattle.slots.specs.Slots.{ReadsFit, ShapesFit, SortsFit, active, fieldlessAt, kindAt, manyAt, onlyIs, othersAt, ownerAt, partAt, readBit, readDefault, readKey, readTerm};
 
@@ -10,6 +10,20 @@ pub fn same_class(classes: &[u8; 96], labels: &[u16; 96], i: u8, j: u8) -> bool
     ensures { λ r. ⌜ r ≡ sameClass (state (now (classes .entry)) (now (labels .entry))) i j ⌝ }
 {
     classes::class_of(classes, i) == classes::class_of(classes, j)
+}
+
+pub fn wide(x: u8) -> usize
+    ensures { λ r. ⌜ r ≡ x ⌝ }
+{
+    x as usize
+}
+
+pub fn label_at(classes: &[u8; 96], labels: &[u16; 96], x: usize) -> u16
+    requires { ⌜ x < 96 ⌝ }
+    requires { ⌜ Held (now classes) ⌝ }
+    ensures { λ r. ⌜ r ≡ labelOf (state (now (classes .entry)) (now (labels .entry))) x ⌝ }
+{
+    classes::label_of(classes, labels, x as u8)
 }
 
 // ---- shapes: terms built by a variant, each in its slot

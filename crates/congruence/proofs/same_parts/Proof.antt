@@ -3,11 +3,11 @@ use mathlib.Core.Path.{_≡_, _∙_, ap₂, sym}
 use mathlib.Core.Bool.{true}
 use Prim.Native.Nat.{_≤_, _<_, _-_}
 use native.Mathlib.Omega.{arith}
+use borrow.Author.Count.{below-more}
 use Rattle.guard.specs.Closure.{sameClass}
 use Rattle.classes.specs.Held.{state}
 use Rattle.slots.specs.Slots.{partAt}
 use borrow.Author.Tests.{not-false, not-true}
-use Rattle.slots.proofs.Tests.{one-further}
 use Rattle.congruence.proofs.Tests.{SameUpTo, parts-differ, parts-same}
 use Rattle.congruence.proofs.same_parts.Statement.{statement}
 use Rattle.congruence.proofs.same_parts.Tie as tie
@@ -56,7 +56,7 @@ loop-again c =
     let a = c .before .before .before .before .before .before .before .args in
     let s = state (a .classes .now) (a .labels .now) in (
       omega arith,
-      one-further (λ q. sameClass s (partAt (a .shapes .now) (a .i) q) (partAt (a .shapes .now) (a .k) q) ≡ true) (c .before .before .before .before .before .loop .p) (c .before .before .before .before .before .loop .inv .1)
+      below-more (λ q. sameClass s (partAt (a .shapes .now) (a .i) q) (partAt (a .shapes .now) (a .k) q) ≡ true) (c .before .before .before .before .before .loop .p) (c .before .before .before .before .before .loop .inv .1)
           (sym (c .before .same-class .ensures ∙ ap₂ (sameClass s) (c .before .before .before .part .ensures) (c .before .before .part2 .ensures)) ∙ not-false _ (c .if1 .left)),
     )
 

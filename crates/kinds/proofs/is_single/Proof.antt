@@ -4,9 +4,9 @@ use native.Mathlib.Omega.{arith}
 use borrow.Author.Tests.{eq-eqb, le-ltb, lt-ltb, ne-eqb}
 use Rattle.guard.specs.Closure.{labelOf}
 use Rattle.classes.specs.Held.{state}
+use Rattle.loops.proofs.Tests.{no-and, yes-and}
 use Rattle.slots.specs.Slots.{onlyIs}
-use Rattle.nodes.specs.Choice.{lowestIn}
-use Rattle.nodes.proofs.Tests.{no-and, yes-and}
+use Rattle.splits.specs.Choice.{lowestIn}
 use Rattle.kinds.specs.Found.{isSingle}
 use borrow.Author.Needs.{needs}
 use Rattle.kinds.proofs.is_single.Statement.{statement}

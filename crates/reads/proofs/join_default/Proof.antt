@@ -7,7 +7,7 @@ use borrow.Author.Tests.{eq-eqb, ne-eqb}
 use Rattle.guard.specs.Closure.{Fact.same, labelOf}
 use Rattle.classes.specs.Held.{state}
 use Rattle.classes.proofs.ClassLaws.{still-held}
-use Rattle.slots.proofs.Tests.{and-false, second-decides}
+use Rattle.loops.proofs.Tests.{no-and, second-decides}
 use Rattle.reads.proofs.Joins.{default-apart, default-joined}
 use borrow.Author.Needs.{needs}
 use Rattle.reads.proofs.join_default.Statement.{statement}
@@ -20,7 +20,7 @@ returns : tie.Need-returns
 returns c =
     let a = c .before .before .args in
     let s = state (a .classes .now) (a .labels .now) in
-    (default-apart (a .reads .now) s (a .k) (and-false _ _ (ap not (eq-eqb _ 0 (sym (c .before .read-key .ensures) ∙ c .if1 .taken)))), c .before .before .pre .1 .0)
+    (default-apart (a .reads .now) s (a .k) (sym (no-and _ (ap not (eq-eqb _ 0 (sym (c .before .read-key .ensures) ∙ c .if1 .taken))))), c .before .before .pre .1 .0)
 
 read-term-requires : tie.Need-read-term-requires
 read-term-requires c κs = search needs

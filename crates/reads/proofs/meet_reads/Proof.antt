@@ -6,7 +6,7 @@ use borrow.Author.Tests.{eq-eqb, ne-eqb, not-false, not-true}
 use Rattle.guard.specs.Closure.{Fact.same, sameClass}
 use Rattle.classes.specs.Held.{state}
 use Rattle.classes.proofs.ClassLaws.{still-held}
-use Rattle.slots.proofs.Tests.{and-false, second-decides}
+use Rattle.loops.proofs.Tests.{no-and, second-decides}
 use Rattle.reads.proofs.Joins.{reads-apart, reads-joined}
 use borrow.Author.Needs.{needs}
 use Rattle.reads.proofs.meet_reads.Statement.{statement}
@@ -19,7 +19,7 @@ returns : tie.Need-returns
 returns c =
     let a = c .before .before .args in
     let s = state (a .classes .now) (a .labels .now) in
-    (reads-apart (a .reads .now) s (a .k) (a .i) (and-false _ _ (ap not (eq-eqb _ 0 (sym (c .before .read-key .ensures) ∙ c .if1 .taken)))), c .before .before .pre .1 .0)
+    (reads-apart (a .reads .now) s (a .k) (a .i) (sym (no-and _ (ap not (eq-eqb _ 0 (sym (c .before .read-key .ensures) ∙ c .if1 .taken))))), c .before .before .pre .1 .0)
 
 read-key-requires-2 : tie.Need-read-key-requires-2
 read-key-requires-2 c κs = search needs
@@ -31,7 +31,7 @@ returns-2 : tie.Need-returns-2
 returns-2 c =
     let a = c .before .before .before .before .before .args in
     let s = state (a .classes .now) (a .labels .now) in
-    (reads-apart (a .reads .now) s (a .k) (a .i) (second-decides _ _ _ (ap not (ne-eqb _ 0 (λ e. c .before .before .before .if1 .left (c .before .before .before .before .read-key .ensures ∙ e)))) (and-false _ _ (ne-eqb _ _ (λ e. c .if2 .taken (c .before .before .read-key2 .ensures ∙ e ∙ sym (c .before .read-key3 .ensures)))))), c .before .before .before .before .before .pre .1 .0)
+    (reads-apart (a .reads .now) s (a .k) (a .i) (second-decides _ _ _ (ap not (ne-eqb _ 0 (λ e. c .before .before .before .if1 .left (c .before .before .before .before .read-key .ensures ∙ e)))) (sym (no-and _ (ne-eqb _ _ (λ e. c .if2 .taken (c .before .before .read-key2 .ensures ∙ e ∙ sym (c .before .read-key3 .ensures))))))), c .before .before .before .before .before .pre .1 .0)
 
 read-term-requires : tie.Need-read-term-requires
 read-term-requires c κs = search needs
