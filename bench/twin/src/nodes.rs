@@ -1,4 +1,4 @@
-//! The reasons to close a node and its split, as in crate `nodes`.
+//! The reasons to close a node and its split, as in the crates `reasons`, `levels`, `nodes` and `splits`.
 
 use crate::guard::{Label, Line, Term};
 use crate::problem::{Problem, PLACES, TERMS};

@@ -1,4 +1,4 @@
-//! The closure of a node: the passes of crate `saturation`, in its order.
+//! The closure of a node: the passes of the crates `reads`, `singles` and `keys`, in the order of `saturation`.
 
 use crate::guard::Term;
 use crate::problem::{Problem, Read, Shape, SLOTS, TERMS};

@@ -1,5 +1,5 @@
 -- Renaming a class maps the array in place; adding a fact is a merge or a cut label. Assumes nothing.
-use mathlib.Core.Path.{_≡_, refl, ap, sym, _∙_}
+use mathlib.Core.Path.{_≡_, refl, ap, sym, _∙_, subst}
 use mathlib.Core.Logic.{_⊎_, inl, inr}
 use mathlib.Core.Bool.{Bool, true, false, cond, not}
 use mathlib.Core.List.{List, [], _∷_, map}
@@ -10,7 +10,7 @@ use lib.ListN.{length, getD, set}
 use borrow.Author.Tests.{eq-eqb, ne-eqb}
 use Rattle.laws.proofs.InPlace.{front-all, front-at, front-length, front-next, mapFront}
 use Rattle.guard.specs.Closure.{Fact, Fact.same, Fact.within, State, add, classOf, holds, merge, mergeUnless, rename}
-use Rattle.classes.specs.Held.{Held}
+use Rattle.classes.specs.Held.{Held, state}
 
 module _ (low high : ℕ) where
   abbrev renamed : ℕ → ℕ
@@ -84,3 +84,7 @@ held-after s (same i j) h = either (eqb (classOf s i) (classOf s j))
           there = rename-there (min (classOf s i) (classOf s j)) (max (classOf s i) (classOf s j)) (s .classes) (omega (arith, h .there i, h .there j)) (h .there);
         }
 held-after s (within i m) h = h
+
+-- so the arrays of code that adds a fact stay as they have to be
+pub still-held : (cs ls cs′ ls′ : List ℕ) (f : Fact) → Held cs → state cs′ ls′ ≡ add (state cs ls) f → Held cs′
+still-held cs ls cs′ ls′ f h e = subst Held (sym (ap (λ (s : State). s .classes) e)) (held-after (state cs ls) f h)

@@ -21,19 +21,18 @@ use Rattle.guard.specs.Node.{insideItself, partsOf, reached}
 use Rattle.guard.specs.Terms.{Build, Table, Term, tableOf, termCount}
 use Rattle.guard.specs.WellFormed.{WellFormed}
 use Rattle.guard.proofs.ClosureState.{Small}
-use Rattle.classes.specs.Held.{Held}
 use Rattle.models.proofs.Ranks.{complete, is-part, reached-keeps}
-use Rattle.problem.specs.Problem.{fieldlessOf, shapesOf, sortsOf}
 use Rattle.tables.specs.Layout.{flat}
-use Rattle.saturation.specs.Due.{active, manyAt, sortAt}
-use Rattle.saturation.proofs.DueLaws.{when-is}
-use Rattle.saturation.proofs.GuardSlots.{shape-slots, sort-slots}
-use Rattle.saturation.proofs.ShapesFollow.{ActiveSlot, BuildSlot, ShapeSlots, active-build, build-active}
-use Rattle.saturation.proofs.SinglesFollow.{SortSlots}
-use Rattle.nodes.specs.Lowest.{lowest}
-use Rattle.nodes.proofs.CycleLaws.{parts-small}
-use Rattle.nodes.proofs.Loops.{lowest-here, lowest-nowhere}
-use Rattle.nodes.proofs.ReasonLaws.{found-same}
+use Rattle.classes.specs.Held.{Held}
+use Rattle.loops.specs.Lowest.{lowest}
+use Rattle.loops.proofs.Loops.{found-same, lowest-here, lowest-nowhere}
+use Rattle.problem.specs.Problem.{fieldlessOf, shapesOf, sortsOf}
+use Rattle.slots.specs.Slots.{active, manyAt, sortAt}
+use Rattle.slots.proofs.DueLaws.{when-is}
+use Rattle.slots.proofs.GuardSlots.{shape-slots, sort-slots}
+use Rattle.slots.proofs.ActiveSlots.{ActiveSlot, BuildSlot, active-build, build-active}
+use Rattle.slots.proofs.TableSlots.{ShapeSlots, SortSlots}
+use Rattle.ranks.proofs.CycleLaws.{parts-small}
 use Rattle.needed.specs.Needed.{ownClass, partClass}
 use Rattle.cycles.specs.Cycles.{Inside, LowestOf, PartOf, PartOf.its-part, PartOf.of-part, insideTerm}
 

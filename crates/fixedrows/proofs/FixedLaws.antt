@@ -17,11 +17,11 @@ use Rattle.guard.specs.Closure.{State, labelOf}
 use Rattle.guard.specs.Message.{Message, Message.made, Message.number, Parts.nil, noMessage, toParts}
 use Rattle.guard.specs.Shown.{decode, isBelow, messageType, natural}
 use Rattle.guard.specs.Types.{Types, fieldsOf, isNumber, variantsOf}
-use Rattle.rowstore.specs.Store.{PartRows, madeRow, manyAfter, messageAt, rowFound, withRow}
-use Rattle.saturation.specs.Due.{kindAt, manyAt, partAt, sortAt}
+use Rattle.loops.specs.Lowest.{lowest}
+use Rattle.slots.specs.Slots.{kindAt, manyAt, partAt, sortAt}
 use Rattle.given.specs.Facts.{constantValue}
-use Rattle.nodes.specs.Choice.{lowestIn}
-use Rattle.nodes.specs.Lowest.{lowest}
+use Rattle.splits.specs.Choice.{lowestIn}
+use Rattle.rowstore.specs.Store.{PartRows, madeRow, manyAfter, messageAt, rowFound, withRow}
 use Rattle.kinds.specs.Found.{constantOf, isShape, isSingle, shapeOf, singleOf}
 use Rattle.growthrows.specs.Drawing.{Drew, LowRows, NumberDrawn, Store}
 use Rattle.growthrows.proofs.RowLaws.{drew-over}

@@ -8,8 +8,8 @@ use lib.IntN.{ℤ}
 use lib.ListN.{getD, set}
 use Rattle.guard.specs.Message.{Message}
 use Rattle.guard.specs.Types.{Types}
+use Rattle.slots.specs.Slots.{manyAt, partAt}
 use Rattle.rowstore.specs.Store.{Grown}
-use Rattle.saturation.specs.Due.{manyAt, partAt}
 use Rattle.growthrows.specs.Drawing.{Drew, Store}
 use Rattle.plans.specs.Plans.{OpenState, isFree}
 use Rattle.leaf.specs.declared.Leaf.{Leaf}

@@ -47,13 +47,10 @@ fn part_row(leaf: Leaf, at: &[u16; 96], k: usize, p: usize) -> usize
 {
     let shapes = leaf.shapes;
     let classes = leaf.classes;
-    if p >= saturation::many(&shapes, k) {
+    if p >= slots::many(&shapes, k) {
         return 0;
     }
-    row_at(
-        at,
-        classes::class_of(&classes, saturation::part(&shapes, k, p)),
-    )
+    row_at(at, classes::class_of(&classes, slots::part(&shapes, k, p)))
 }
 
 // Shape `k` over the rows of its parts.

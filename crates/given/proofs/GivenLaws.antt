@@ -32,10 +32,10 @@ use Rattle.tables.proofs.Columns.{pad-get}
 use Rattle.tables.proofs.Lookups.{map-at}
 use Rattle.problem.specs.Problem.{constantsOf, fullOf, shapesOf, sortsOf}
 use Rattle.problem.proofs.SlotLaws.{full-at, sort-of, sort-term}
-use Rattle.saturation.specs.Due.{kindAt, othersAt, ownerAt, sortAt}
-use Rattle.saturation.proofs.DueLaws.{either-order, is-nonzero, nonzero-is, slots-at}
-use Rattle.saturation.proofs.GuardSlots.{shape-slots}
-use Rattle.saturation.proofs.ShapesFollow.{ShapeSlot, ShapeSlots, Shaped, Shaped.of-build, Shaped.of-read}
+use Rattle.slots.specs.Slots.{kindAt, othersAt, ownerAt, sortAt}
+use Rattle.slots.proofs.DueLaws.{either-order, is-nonzero, nonzero-is, slots-at}
+use Rattle.slots.proofs.GuardSlots.{shape-slots}
+use Rattle.slots.proofs.TableSlots.{ShapeSlot, ShapeSlots, Shaped, Shaped.of-build, Shaped.of-read}
 use Rattle.given.specs.Facts.{LiteralsFit, allVariantsAt, allVariantsBy, constantTerm, constantValue, constantsAt, constantsBy, constantsMeet, factOf, givenBy, isBuild, literalAt, literalsBy, oneVariantAt, oneVariantBy, sameConstant, variantAt}
 use Rattle.given.proofs.ConstantSlots.{ConstantSlot, ConstantSlots, constant-slots}
 

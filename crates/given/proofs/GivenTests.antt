@@ -15,10 +15,9 @@ use Rattle.laws.proofs.Bools.{and-both, by-test, cond-ind}
 use Rattle.guard.specs.Closure.{Fact.same, Fact.within, State, add, eqZ, everyVariant}
 use Rattle.guard.proofs.ClosureBelow.{eqZ-true}
 use Rattle.guard.proofs.LeastClosure.{eqZ-of}
-use Rattle.saturation.specs.Due.{kindAt, othersAt, ownerAt, sortAt}
-use Rattle.saturation.proofs.DueLaws.{is-nonzero}
-use Rattle.saturation.proofs.Joins.{second-decides}
-use Rattle.saturation.proofs.Tests.{and-false}
+use Rattle.loops.proofs.Tests.{no-and, second-decides}
+use Rattle.slots.specs.Slots.{kindAt, othersAt, ownerAt, sortAt}
+use Rattle.slots.proofs.DueLaws.{is-nonzero}
 use Rattle.given.specs.Facts.{allVariantsAt, constantTerm, constantValue, constantsMeet, factOf, isBuild, oneVariantAt, sameConstant, variantAt}
 use Rattle.given.proofs.Adding.{not-added, one-added}
 
@@ -39,7 +38,7 @@ module _ (shapes : List ℕ) (s : State) (k : ℕ) where
   no-build = not-added (isBuild shapes k) (within (ownerAt shapes k) (2 ^ variantAt shapes k)) s
 
   pub no-shape : kindAt shapes k ≡ 0 → s ≡ foldl add s (oneVariantAt shapes k)
-  no-shape e = no-build (and-false _ _ (ap not (eq-eqb _ _ e)))
+  no-shape e = no-build (sym (no-and _ (ap not (eq-eqb _ _ e))))
 
   pub read-shape : ¬ (kindAt shapes k ≡ 0) → ¬ (othersAt shapes k ≡ 0) → s ≡ foldl add s (oneVariantAt shapes k)
   read-shape n o = no-build (second-decides _ _ _ (is-nonzero _ n) (ne-eqb _ _ o))
@@ -83,11 +82,11 @@ module _ (values : List ℤ) (k : ℕ) where
 module _ (constants : List ℕ) (values : List ℤ) (k j : ℕ) where
   pub no-constant : getD constants k 0 ≡ 0 → false ≡ sameConstant constants values k j
   unfolding sameConstant
-  no-constant e = sym (and-false _ _ (ap not (eq-eqb _ _ e)))
+  no-constant e = no-and _ (ap not (eq-eqb _ _ e))
 
   pub other-type : ¬ (getD constants k 0 ≡ 0) → ¬ (getD constants j 0 ≡ getD constants k 0) → false ≡ sameConstant constants values k j
   unfolding sameConstant
-  other-type n o = sym (second-decides _ _ _ (is-nonzero _ n) (and-false _ _ (ne-eqb _ _ o)))
+  other-type n o = sym (second-decides _ _ _ (is-nonzero _ n) (sym (no-and _ (ne-eqb _ _ o))))
 
   pub by-value : ¬ (getD constants k 0 ≡ 0) → getD constants j 0 ≡ getD constants k 0 → (a b : ℤ) → SFits w32 a → SFits w32 b
       → a ≡ constantValue values j → b ≡ constantValue values k → eqb (ofZ w32 a) (ofZ w32 b) ≡ sameConstant constants values k j

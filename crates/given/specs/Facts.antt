@@ -8,7 +8,7 @@ use lib.IntN.{ℤ, pos}
 use lib.ListN.{getD}
 use Rattle.laws.specs.Lists.{concatMap, from, when}
 use Rattle.guard.specs.Closure.{Fact, Fact.same, Fact.within, eqZ, everyVariant}
-use Rattle.saturation.specs.Due.{kindAt, othersAt, ownerAt, sortAt}
+use Rattle.slots.specs.Slots.{kindAt, othersAt, ownerAt, sortAt}
 
 -- ---- labels
 

@@ -6,7 +6,7 @@ ghost use lib.ListN.{length};
 ghost use Rattle.guard.specs.Closure.{add};
 ghost use Rattle.guard.proofs.ClosureEnds.{first};
 ghost use Rattle.classes.specs.Held.{Held, state};
-ghost use Rattle.saturation.specs.Due.{ShapesFit, SortsFit, kindAt};
+ghost use Rattle.slots.specs.Slots.{ShapesFit, SortsFit, kindAt};
 ghost use Rattle.given.specs.Facts.{LiteralsFit, allVariantsAt, allVariantsBy, constantTerm, constantValue, constantsAt, constantsBy, constantsMeet, factOf, givenBy, literalAt, literalsBy, oneVariantAt, oneVariantBy, sameConstant, variantAt};
 
 // Each term in a class of its own, its label not cut down yet.

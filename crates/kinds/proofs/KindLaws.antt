@@ -29,17 +29,17 @@ use Rattle.models.proofs.Classes.{Reason, Reason.nullary, Reason.unfixed, build
 use Rattle.models.proofs.Nodes.{NodeOf, OpenNode, TypedNode, alone-test, build-of, built-of, built-term, label-held, test-alone, typed-node}
 use Rattle.models.proofs.TypedTable.{termType}
 use Rattle.tables.specs.Layout.{flat, rowTable}
+use Rattle.loops.specs.Lowest.{lowest}
 use Rattle.problem.specs.Problem.{constantsOf, fieldlessOf, shapesOf, sortsOf}
-use Rattle.saturation.specs.Due.{active, fieldlessAt, onlyIs, sortAt}
-use Rattle.saturation.proofs.GuardSlots.{shape-slots, sort-slots}
-use Rattle.saturation.proofs.MaskLaws.{bit-fieldless, fieldless-bit}
-use Rattle.saturation.proofs.OnlyOne.{one-left}
-use Rattle.saturation.proofs.ShapesFollow.{ShapeSlot, active-build, build-active}
-use Rattle.saturation.proofs.SinglesFollow.{SortSlots}
+use Rattle.slots.specs.Slots.{active, fieldlessAt, onlyIs, sortAt}
+use Rattle.slots.proofs.GuardSlots.{shape-slots, sort-slots}
+use Rattle.slots.proofs.MaskLaws.{bit-fieldless, fieldless-bit}
+use Rattle.slots.proofs.OnlyOne.{one-left}
+use Rattle.slots.proofs.TableSlots.{ShapeSlot, SortSlots}
+use Rattle.slots.proofs.ActiveSlots.{active-build, build-active}
 use Rattle.given.specs.Facts.{constantValue, isConstant}
 use Rattle.given.proofs.ConstantSlots.{ConstantSlot, ConstantSlots, constant-slots}
-use Rattle.nodes.specs.Choice.{lowestIn}
-use Rattle.nodes.specs.Lowest.{lowest}
+use Rattle.splits.specs.Choice.{lowestIn}
 use Rattle.kinds.specs.Found.{constantOf, isFixed, isShape, isSingle, shapeOf, singleOf}
 
 -- nothing is found where the search went to the end

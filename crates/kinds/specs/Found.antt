@@ -6,11 +6,11 @@ use Prim.Native.Nat.{ℕ}
 use lib.Dec.{eqb, ltb}
 use Rattle.guard.specs.Closure.{State, classOf, labelOf}
 use Rattle.guard.specs.Limits.{variantLimit}
-use Rattle.saturation.specs.Due.{active, onlyIs, ownerAt}
+use Rattle.loops.specs.Lowest.{lowest}
+use Rattle.slots.specs.Slots.{active, onlyIs, ownerAt}
 use Rattle.given.specs.Facts.{isConstant}
-use Rattle.nodes.specs.Choice.{lowestIn}
-use Rattle.nodes.specs.Lowest.{lowest}
-use Rattle.nodes.specs.Reasons.{constantClass}
+use Rattle.reasons.specs.Reasons.{constantClass}
+use Rattle.splits.specs.Choice.{lowestIn}
 
 -- slot k has a shape of class c; the lowest such slot, 30 where there is none
 unfoldable pub isShape : List ℕ → State → ℕ → ℕ → Bool

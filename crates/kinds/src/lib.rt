@@ -2,7 +2,7 @@
 ghost use mathlib.Core.Path.{_≡_};
 ghost use Prim.Native.Nat.{_<_};
 ghost use Rattle.classes.specs.Held.{Held, state};
-ghost use Rattle.saturation.specs.Due.{ShapesFit, SortsFit};
+ghost use Rattle.slots.specs.Slots.{ShapesFit, SortsFit};
 ghost use Rattle.kinds.specs.Found.{constantOf, isFixed, isShape, isSingle, shapeOf, singleOf};
 
 // ---- shapes
@@ -13,7 +13,7 @@ fn is_shape(classes: &[u8; 96], labels: &[u16; 96], shapes: &[u16; 256], c: u8, 
     requires { ⌜ ShapesFit (now shapes) ⌝ }
     ensures { λ r. ⌜ r ≡ isShape (now (shapes .entry)) (state (now (classes .entry)) (now (labels .entry))) c k ⌝ }
 {
-    if !saturation::active(classes, labels, shapes, k) {
+    if !slots::active(classes, labels, shapes, k) {
         return false;
     }
     classes::class_of(classes, shapes[8 * k] as u8) == c
@@ -83,7 +83,7 @@ fn is_single(
     if v >= 16 {
         return false;
     }
-    saturation::only_is(classes, labels, sorts, fieldless, x, v)
+    slots::only_is(classes, labels, sorts, fieldless, x, v)
 }
 
 // The lowest term of class `c` that is of one fieldless variant alone; 78 if there is none.

@@ -32,11 +32,11 @@ use Rattle.models.proofs.TypedTable.{termType}
 use Rattle.tables.specs.Layout.{flat, rowTable}
 use Rattle.tables.proofs.Lookups.{map-at}
 use Rattle.problem.specs.Problem.{constantsOf, fieldlessOf, kindNumber, shapesOf, sortsOf}
-use Rattle.saturation.specs.Due.{manyAt, partAt}
+use Rattle.slots.specs.Slots.{manyAt, partAt}
+use Rattle.given.specs.Facts.{constantValue}
+use Rattle.splits.specs.Choice.{lowestIn}
 use Rattle.rowstore.proofs.RowLaws.{belongs-type}
 use Rattle.kinds.specs.Found.{constantOf, isShape, singleOf}
-use Rattle.given.specs.Facts.{constantValue}
-use Rattle.nodes.specs.Choice.{lowestIn}
 use Rattle.kinds.proofs.KindLaws.{ConstantClass, ShapeClass, SingleClass, found-constant, found-single, kind, shape-class}
 use Rattle.needed.proofs.NeededLaws.{Need, need-parts}
 use Rattle.plans.specs.Plans.{OpenState, isFree, planFor, typeFor}

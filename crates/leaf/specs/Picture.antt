@@ -8,15 +8,15 @@ use lib.ListN.{length, getD}
 use Rattle.laws.specs.Lists.{from}
 use Rattle.guard.specs.Closure.{classOf, labelOf}
 use Rattle.guard.specs.Limits.{variantLimit}
-use Rattle.guard.specs.Message.{Message, Message.number, Message.made, Parts.nil, toParts}
+use Rattle.guard.specs.Message.{Message, Message.made, Message.number, Parts.nil, toParts}
 use Rattle.guard.specs.Shown.{messageType}
 use Rattle.guard.specs.Types.{fieldsOf, isNumber, variantsOf}
-use Rattle.problem.specs.Problem.{kindNumber}
-use Rattle.saturation.specs.Due.{kindAt, manyAt, partAt, sortAt}
-use Rattle.given.specs.Facts.{constantValue}
-use Rattle.nodes.specs.Choice.{lowestIn}
-use Rattle.kinds.specs.Found.{constantOf, isShape, singleOf}
 use Rattle.growth.proofs.Plans.{plannedMessage}
+use Rattle.problem.specs.Problem.{kindNumber}
+use Rattle.slots.specs.Slots.{kindAt, manyAt, partAt, sortAt}
+use Rattle.given.specs.Facts.{constantValue}
+use Rattle.splits.specs.Choice.{lowestIn}
+use Rattle.kinds.specs.Found.{constantOf, isShape, singleOf}
 use Rattle.plans.specs.Plans.{OpenState, isFree, marked, planFor, stateOf, typeFor}
 
 -- class c gets a message; classes are numbers of terms, so below 78

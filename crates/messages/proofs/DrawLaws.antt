@@ -21,14 +21,14 @@ use Rattle.guard.specs.Shown.{Reached, Reached.part, Reached.place, isBelow, na
 use Rattle.guard.proofs.ClosureState.{Small}
 use Rattle.guard.proofs.TableLaws.{few-rows}
 use Rattle.models.proofs.Drawing.{drawn-holds, drawn-values, shownBy}
-use Rattle.problem.specs.Problem.{shapesOf}
 use Rattle.classes.specs.Held.{Held}
-use Rattle.saturation.specs.Due.{active, manyAt, ownerAt, partAt}
+use Rattle.problem.specs.Problem.{shapesOf}
+use Rattle.slots.specs.Slots.{active, manyAt, ownerAt, partAt}
+use Rattle.search.specs.Nodes.{Accepted, OpenLeaf}
+use Rattle.rowstore.specs.Store.{messageAt}
 use Rattle.kinds.specs.Found.{isShape}
 use Rattle.needed.specs.Needed.{Needed, Needed.of-part, Needed.of-row, ownClass}
-use Rattle.rowstore.specs.Store.{messageAt}
 use Rattle.growthrows.specs.Drawing.{Under, Under.here, Under.part}
-use Rattle.search.specs.Nodes.{Accepted, OpenLeaf}
 use Rattle.plans.specs.Plans.{OpenState, highestRank, openOf, planFor}
 use Rattle.leaf.specs.declared.Leaf.{Leaf}
 use Rattle.leaf.specs.Leaf.{openState}
@@ -36,7 +36,7 @@ use Rattle.leaf.specs.Picture.{Pictured, ShapeIs, Wanted, partClass}
 use Rattle.leaf.specs.Sheet.{HasRow, Placed, Sheet}
 use Rattle.messages.specs.Messages.{Draws}
 use Rattle.messages.specs.Rows.{LeafOf, PlacesSet, RowsDrawn}
-use Rattle.messages.proofs.OpenLaws.{drawing, is-open, message, message-pictured, need-wanted, nd, o, rank, wanted-need}
+use Rattle.messages.proofs.OpenLaws.{drawing, is-open, message, message-pictured, nd, need-wanted, o, rank, wanted-need}
 use Rattle.messages.proofs.RowParts.{PartOf, row-part}
 
 -- what is under a row that is reached is reached

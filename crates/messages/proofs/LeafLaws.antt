@@ -13,11 +13,11 @@ use Rattle.problem.specs.declared.Problem.{Problem}
 use Rattle.problem.specs.Problem.{problemOf, shapesOf}
 use Rattle.problem.specs.Columns.{problemBy}
 use Rattle.problem.proofs.ProblemLaws.{problem-is}
-use Rattle.saturation.specs.Due.{ShapesFit}
-use Rattle.saturation.proofs.GuardSlots.{shapes-fit}
-use Rattle.nodes.specs.Ranks.{rankingOf}
-use Rattle.needed.specs.Needed.{Marks}
+use Rattle.slots.specs.Slots.{ShapesFit}
+use Rattle.slots.proofs.GuardSlots.{shapes-fit}
+use Rattle.ranks.specs.Ranks.{rankingOf}
 use Rattle.search.specs.Nodes.{Accepted}
+use Rattle.needed.specs.Needed.{Marks}
 use Rattle.messages.specs.Rows.{LeafOf}
 
 module _ (tables : Tables) (r : Problem) (made : r ≡ problemBy tables) (g : Guard) (ok : Accepted g) (is : tables ≡ guardTables g) where

@@ -21,17 +21,17 @@ use Rattle.models.proofs.Drawing.{Drawing}
 use Rattle.models.proofs.Nodes.{NodeOf, OpenNode, is-node, isnt-node, open-node, root-node}
 use Rattle.models.proofs.TypedTable.{table-typed}
 use Rattle.tables.specs.Layout.{rowTable}
-use Rattle.problem.specs.Problem.{constantsOf, fieldlessOf, kindNumber, shapesOf, sortsOf}
 use Rattle.classes.specs.Held.{Held}
-use Rattle.saturation.specs.Due.{ShapesFit, SortsFit, active, kindAt, manyAt, partAt}
-use Rattle.saturation.proofs.GuardSlots.{shape-slots, shapes-fit, sorts-fit}
-use Rattle.saturation.proofs.ShapesFollow.{Shaped, Shaped.of-build, Shaped.of-read}
-use Rattle.nodes.specs.Ranks.{rankingOf}
-use Rattle.nodes.proofs.RankLaws.{ranks-fall, ranks-small}
-use Rattle.kinds.specs.Found.{isShape}
-use Rattle.needed.specs.Needed.{Needed}
+use Rattle.problem.specs.Problem.{constantsOf, fieldlessOf, kindNumber, shapesOf, sortsOf}
+use Rattle.slots.specs.Slots.{ShapesFit, SortsFit, active, kindAt, manyAt, partAt}
+use Rattle.slots.proofs.GuardSlots.{shape-slots, shapes-fit, sorts-fit}
+use Rattle.slots.proofs.TableSlots.{Shaped, Shaped.of-build, Shaped.of-read}
+use Rattle.ranks.specs.Ranks.{rankingOf}
+use Rattle.ranks.proofs.RankLaws.{ranks-fall, ranks-small}
 use Rattle.search.specs.Nodes.{Accepted, NodeLiterals, NodeLiterals.atIs, NodeLiterals.atIsnt, NodeLiterals.atRoot, OpenLeaf}
 use Rattle.search.proofs.ClosedState.{literals-in}
+use Rattle.kinds.specs.Found.{isShape}
+use Rattle.needed.specs.Needed.{Needed}
 use Rattle.plans.specs.Plans.{OpenState, highestRank, isFree, openOf, planFor}
 use Rattle.plans.proofs.ClassLaws.{free-is-free, free-need, marked-need, need-class, need-marked, need-small, type-for}
 use Rattle.plans.proofs.PlanLaws.{falls, plans-drawing}

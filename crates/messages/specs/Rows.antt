@@ -12,10 +12,10 @@ use Rattle.tables.specs.Layout.{rowTable}
 use Rattle.reader.specs.Reader.{guardTables}
 use Rattle.reader.specs.declared.Tables.{Tables}
 use Rattle.problem.specs.Problem.{constantsOf, fieldlessOf, shapesOf, sortsOf}
-use Rattle.nodes.specs.Ranks.{rankingOf}
-use Rattle.needed.specs.Needed.{Marks}
-use Rattle.rowstore.specs.Store.{Grown}
+use Rattle.ranks.specs.Ranks.{rankingOf}
 use Rattle.search.specs.Nodes.{Accepted}
+use Rattle.rowstore.specs.Store.{Grown}
+use Rattle.needed.specs.Needed.{Marks}
 use Rattle.leaf.specs.declared.Leaf.{Leaf}
 use Rattle.leaf.specs.Leaf.{openState}
 use Rattle.leaf.specs.Picture.{Pictured, Wanted}

@@ -7,11 +7,11 @@ use reader::Tables;
 ghost use Prim.Native.Nat.{_≤_, _<_};
 ghost use lib.ListN.{length};
 ghost use Rattle.classes.specs.Held.{Held, state};
+ghost use Rattle.search.specs.Nodes.{GuardsTables};
 ghost use Rattle.growthrows.specs.Forms.{FormsFit, typesIn};
 ghost use Rattle.leaf.specs.Leaf.{LeafFits, openState};
-ghost use Rattle.fixedrows.specs.Stage.{AtLow};
 ghost use Rattle.freerows.specs.Free.{Blank, FreeFits};
-ghost use Rattle.search.specs.Nodes.{GuardsTables};
+ghost use Rattle.fixedrows.specs.Stage.{AtLow};
 ghost use Rattle.messages.specs.Messages.{DrawsFor, OpenTables};
 ghost use Rattle.messages.specs.Rows.{Drawable, LeafFor, PlacesSet, RowsDrawn};
 
@@ -31,7 +31,7 @@ fn leaf_of(tables: Tables, classes: &[u8; 96], labels: &[u16; 96]) -> Leaf
     let mut marks = [0u8; 96];
     needed::needed(classes, labels, &shapes, terms.many, &mut marks);
     let mut ranks = [0u8; 96];
-    nodes::rank_classes(classes, labels, &shapes, &mut ranks);
+    ranks::rank_classes(classes, labels, &shapes, &mut ranks);
     let own = *classes;
     let cut = *labels;
     Leaf {

@@ -5,7 +5,7 @@ ghost use Prim.Native.Nat.{_<_, _≤_};
 ghost use lib.Dec.{eqb};
 ghost use lib.ListN.{getD, set};
 ghost use Rattle.classes.specs.Held.{Held, state};
-ghost use Rattle.saturation.specs.Due.{ShapesFit, active, manyAt};
+ghost use Rattle.slots.specs.Slots.{ShapesFit, active, manyAt};
 ghost use Rattle.needed.specs.Needed.{AllFollowed, Followed, Leads, Marks, PartMarked, Pass, UpTo, noMarks, ownClass, rowMarks};
 
 fn wide(x: u8) -> usize
@@ -76,11 +76,11 @@ fn mark_parts(
     requires { ⌜ Leads start (now spare) (ownClass (now shapes) (state (now classes) (now labels)) k) ⌝ }
     ensures { λ r. ⌜ Pass (now (shapes .entry)) (state (now (classes .entry)) (now (labels .entry))) start (UpTo (PartMarked (now (shapes .entry)) (state (now (classes .entry)) (now (labels .entry))) k) (manyAt (now (shapes .entry)) k)) (now (spare .entry)) (now (spare .exit)) r ⌝ }
 {
-    let many = saturation::many(shapes, k);
+    let many = slots::many(shapes, k);
     let mut changed = false;
     let mut p: usize = 0;
     while p < many {
-        if mark(classes, spare, saturation::part(shapes, k, p)) {
+        if mark(classes, spare, slots::part(shapes, k, p)) {
             changed = true;
         }
         p += 1;
@@ -102,10 +102,10 @@ fn follow(
     requires { ⌜ ShapesFit (now shapes) ⌝ }
     ensures { λ r. ⌜ Pass (now (shapes .entry)) (state (now (classes .entry)) (now (labels .entry))) start (Followed (now (shapes .entry)) (state (now (classes .entry)) (now (labels .entry))) start k) (now (spare .entry)) (now (spare .exit)) r ⌝ }
 {
-    if !saturation::active(classes, labels, shapes, k) {
+    if !slots::active(classes, labels, shapes, k) {
         return false;
     }
-    if !leads(classes, spare, start, saturation::owner(shapes, k)) {
+    if !leads(classes, spare, start, slots::owner(shapes, k)) {
         return false;
     }
     mark_parts(classes, labels, shapes, start, spare, k)

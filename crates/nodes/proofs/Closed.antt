@@ -7,9 +7,10 @@ use lib.Dec.{ltb}
 use lib.IntN.{ℤ}
 use borrow.Author.Tests.{lt-ltb, le-ltb}
 use Rattle.guard.specs.Closure.{State}
-use Rattle.nodes.specs.Lowest.{lowest}
-use Rattle.nodes.specs.Ranks.{rankingOf}
-use Rattle.nodes.specs.Reasons.{brokenAt, closedBy, emptyAt, unlikeAt}
+use Rattle.loops.specs.Lowest.{lowest}
+use Rattle.reasons.specs.Reasons.{brokenAt, emptyAt, unlikeAt}
+use Rattle.ranks.specs.Ranks.{rankingOf}
+use Rattle.nodes.specs.Closed.{closedBy}
 
 found : (k n : ℕ) (rest : Bool) (l : ℕ) → k ≡ l → k < n → true ≡ (ltb l n || rest)
 found k n rest l e h = sym (ap (λ (b : Bool). b || rest) (ap (λ (i : ℕ). ltb i n) (sym e) ∙ lt-ltb k n h))

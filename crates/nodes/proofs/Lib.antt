@@ -1,14 +1,2 @@
-pub mod Loops
-pub mod Tests
-pub mod Constants
-pub mod Rounds
-pub mod Splits
 pub mod Closed
-pub mod RankLaws
-pub mod InOrder
-pub mod TermOrder
-pub mod SplitLaws
-pub mod ReasonLaws
-pub mod CycleLaws
 pub mod NodeLaws
-pub mod LevelLaws

@@ -16,14 +16,15 @@ use Rattle.guard.specs.Terms.{tableOf, termCount}
 use Rattle.guard.specs.WellFormed.{LiteralFits, WellFormed}
 use Rattle.guard.proofs.ClosureState.{Small}
 use Rattle.guard.proofs.TableLaws.{few-rows}
-use Rattle.classes.specs.Held.{Held}
-use Rattle.problem.specs.Problem.{constantsOf, fullOf, shapesOf, sortsOf}
 use Rattle.tables.specs.Layout.{flat, literalOther, literalTable, literalTerm, pad, rowTable}
 use Rattle.tables.proofs.Columns.{pad-get}
-use Rattle.nodes.specs.Lowest.{lowest}
-use Rattle.nodes.specs.Reasons.{LinesFit, brokenAt, closedBy}
-use Rattle.nodes.proofs.CycleLaws.{inside-same}
-use Rattle.nodes.proofs.ReasonLaws.{broken-same, empty-same, unlike-same}
+use Rattle.classes.specs.Held.{Held}
+use Rattle.loops.specs.Lowest.{lowest}
+use Rattle.problem.specs.Problem.{constantsOf, fullOf, shapesOf, sortsOf}
+use Rattle.reasons.specs.Reasons.{LinesFit, brokenAt}
+use Rattle.reasons.proofs.ReasonLaws.{broken-same, empty-same, unlike-same}
+use Rattle.ranks.proofs.CycleLaws.{inside-same}
+use Rattle.nodes.specs.Closed.{closedBy}
 
 many-is : (ls : List Literal) → literalTable ls .many ≡ length ls
 unfolding literalTable

@@ -1,5 +1,1 @@
-pub mod Lowest
-pub mod Reasons
-pub mod Ranks
-pub mod Choice
-pub mod Levels
+pub mod Closed

@@ -55,6 +55,10 @@ reworded {s = s} e p =
       quiet = λ h. (p .quiet h .0, subst (All (λ f. holds s f ≡ true)) (e s) (p .quiet h .1));
     }
 
+-- where all that is due holds, nothing has to be done
+pub settled : (due : Due) (s : State) → All (λ f. holds s f ≡ true) (due s) → Pass due s s false
+settled due s a = record { steps = done; falls = λ e. absurd (false≢true e); quiet = λ e. (refl, a) }
+
 -- nothing is due here
 pub skipped : (due : Due) (s : State) → due s ≡ [] → Pass due s s false
 skipped due s e = record { steps = done; falls = λ h. absurd (false≢true h); quiet = λ h. (refl, subst (All (λ f. holds s f ≡ true)) (sym e) none) }

@@ -19,12 +19,12 @@ use Rattle.guard.specs.Types.{fieldsOf}
 use Rattle.tables.specs.Layout.{typesOf}
 use Rattle.tables.specs.declared.TypeTable.{TypeTable}
 use Rattle.tables.proofs.Held.{held-arity, held-variants, placeOf}
+use Rattle.loops.specs.Lowest.{lowest}
+use Rattle.loops.proofs.Loops.{NoneBelow, lowest-here, lowest-nowhere}
+use Rattle.loops.proofs.Tests.{and-no, no-and, yes-and}
 use Rattle.given.specs.Facts.{constantValue}
 use Rattle.given.proofs.GivenTests.{same-bits}
 use Rattle.kinds.specs.Found.{constantOf, shapeOf, singleOf}
-use Rattle.nodes.specs.Lowest.{lowest}
-use Rattle.nodes.proofs.Loops.{NoneBelow, lowest-here, lowest-nowhere}
-use Rattle.nodes.proofs.Tests.{and-no, no-and, yes-and}
 use Rattle.plans.specs.Chosen.{freeAt, heldAt, heldIn, higherAt, highestBelow, highestOf, isMarked, sortIn, termIn, variantEntry, variantIn}
 use Rattle.plans.specs.Fresh.{nextFresh, taken, takenAt}
 

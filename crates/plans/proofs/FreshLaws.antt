@@ -18,8 +18,8 @@ use Rattle.laws.proofs.Positions.{least, least-first, least-most, least-passes}
 use Rattle.guard.specs.Closure.{eqZ}
 use Rattle.guard.proofs.ClosureBelow.{eqZ-true}
 use Rattle.guard.proofs.LeastClosure.{eqZ-of}
+use Rattle.loops.specs.Lowest.{lowest}
 use Rattle.given.specs.Facts.{constantValue, isConstant}
-use Rattle.nodes.specs.Lowest.{lowest}
 use Rattle.plans.specs.Fresh.{freshAfter, nextFresh, taken, takenAt}
 
 -- a value is z or above

@@ -14,11 +14,11 @@ use Rattle.laws.proofs.Bools.{and-both}
 use Rattle.guard.specs.Closure.{State}
 use Rattle.guard.specs.Guard.{Guard}
 use Rattle.guard.specs.Types.{isNumber}
-use Rattle.problem.specs.Problem.{shapesOf}
-use Rattle.nodes.proofs.RankLaws.{ranks-small}
 use Rattle.growth.proofs.ClosedPlans.{closedPlan, closedSteps, lap, startOf}
 use Rattle.growth.proofs.Growth.{distanceOf, stepsToNumber}
 use Rattle.growth.proofs.Plans.{Plan, Plan.around, Plan.atOnce, Plan.into}
+use Rattle.problem.specs.Problem.{shapesOf}
+use Rattle.ranks.proofs.RankLaws.{ranks-small}
 use Rattle.plans.specs.Chosen.{higherAt, highestBelow, highestOf, isMarked}
 use Rattle.plans.specs.Fresh.{freshAfter}
 use Rattle.plans.specs.Plans.{OpenState, circledBefore, circling, endFor, endsBefore, freeClasses, highestRank, isFree, openOf, planFor, rootOfClass, typeFor, variantFor}

@@ -41,12 +41,12 @@ use Rattle.models.proofs.TypedTable.{termType}
 use Rattle.tables.specs.Layout.{flat}
 use Rattle.classes.specs.Held.{Held}
 use Rattle.problem.specs.Problem.{constantsOf, shapesOf}
-use Rattle.saturation.proofs.GuardSlots.{shape-slots}
-use Rattle.saturation.proofs.ShapesFollow.{build-active}
+use Rattle.slots.proofs.GuardSlots.{shape-slots}
+use Rattle.slots.proofs.ActiveSlots.{build-active}
 use Rattle.given.proofs.ConstantSlots.{constant-slots}
-use Rattle.nodes.specs.Ranks.{ownClass, partClass, rankingOf}
-use Rattle.nodes.proofs.CycleLaws.{inside-same}
-use Rattle.nodes.proofs.RankLaws.{ranks-fall}
+use Rattle.ranks.specs.Ranks.{ownClass, partClass, rankingOf}
+use Rattle.ranks.proofs.CycleLaws.{inside-same}
+use Rattle.ranks.proofs.RankLaws.{ranks-fall}
 use Rattle.needed.specs.Needed.{Marks, Needed}
 use Rattle.needed.proofs.NeededLaws.{need-parts, need-rows}
 use Rattle.plans.specs.Chosen.{higherAt, highestBelow, highestOf, isMarked}

@@ -8,8 +8,8 @@ use lib.ListN.{getD, length}
 use Rattle.laws.specs.Bits.{bit}
 use Rattle.guard.specs.Closure.{State}
 use Rattle.guard.specs.Types.{Types, fieldsOf, variantsOf}
-use Rattle.saturation.specs.Due.{sortAt}
-use Rattle.nodes.specs.Lowest.{lowest}
+use Rattle.loops.specs.Lowest.{lowest}
+use Rattle.slots.specs.Slots.{sortAt}
 use Rattle.kinds.specs.Found.{constantOf, shapeOf, singleOf}
 
 -- ---- types

@@ -5,8 +5,8 @@ use Prim.Native.Nat.{ℕ, zero, suc, _+_}
 use lib.IntN.{ℤ, pos}
 use Rattle.laws.specs.Lists.{any, from}
 use Rattle.guard.specs.Closure.{eqZ}
+use Rattle.loops.specs.Lowest.{lowest}
 use Rattle.given.specs.Facts.{constantValue, isConstant}
-use Rattle.nodes.specs.Lowest.{lowest}
 
 module _ (constants : List ℕ) (values : List ℤ) where
   -- slot k has a constant of value z

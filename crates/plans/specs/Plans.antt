@@ -11,12 +11,12 @@ use Rattle.laws.specs.Lists.{filter, from}
 use Rattle.guard.specs.Closure.{State}
 use Rattle.guard.specs.Guard.{Guard}
 use Rattle.guard.specs.Types.{Types}
-use Rattle.tables.specs.Layout.{rowTable}
-use Rattle.problem.specs.Problem.{constantsOf, fieldlessOf, shapesOf, sortsOf}
-use Rattle.nodes.specs.Ranks.{rankingOf}
-use Rattle.classes.specs.Held.{state}
 use Rattle.growth.proofs.ClosedPlans.{circles, closedPlan, rootFor}
 use Rattle.growth.proofs.Plans.{Plan}
+use Rattle.tables.specs.Layout.{rowTable}
+use Rattle.classes.specs.Held.{state}
+use Rattle.problem.specs.Problem.{constantsOf, fieldlessOf, shapesOf, sortsOf}
+use Rattle.ranks.specs.Ranks.{rankingOf}
 use Rattle.plans.specs.Chosen.{freeAt, highestOf, isMarked, sortIn, variantIn}
 use Rattle.plans.specs.Fresh.{freshAfter}
 

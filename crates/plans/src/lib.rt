@@ -2,9 +2,9 @@
 ghost use mathlib.Core.Path.{_≡_};
 ghost use Prim.Native.Nat.{_<_, _≤_, _+_};
 ghost use lib.ListN.{getD};
-ghost use Rattle.classes.specs.Held.{Held, state};
-ghost use Rattle.saturation.specs.Due.{ShapesFit, SortsFit};
 ghost use Rattle.tables.specs.Layout.{TypesInRange, typesOf};
+ghost use Rattle.classes.specs.Held.{Held, state};
+ghost use Rattle.slots.specs.Slots.{ShapesFit, SortsFit};
 ghost use Rattle.plans.specs.Chosen.{freeAt, heldAt, higherAt, highestOf, isMember, sortIn, termIn, variantEntry, variantIn};
 ghost use Rattle.plans.specs.Fresh.{nextFresh, taken, takenAt};
 use tables::TypeTable;

@@ -18,11 +18,14 @@ use Rattle.guard.proofs.ClosureBelow.{all-consequences}
 use Rattle.guard.proofs.ClosureState.{Small}
 use Rattle.tables.specs.Layout.{flat}
 use Rattle.problem.specs.Problem.{fieldlessOf, readsOf, shapesOf, sortsOf}
-use Rattle.saturation.specs.Due.{allDue, defaultsDue, readsDue, shapesDue, singlesDue}
-use Rattle.saturation.proofs.GuardSlots.{read-slots, shape-slots, sort-slots}
-use Rattle.saturation.proofs.ReadsFollow.{absent-follow, absent-quiet, pairs-follow, pairs-quiet}
-use Rattle.saturation.proofs.ShapesFollow.{builds-follow, builds-quiet}
-use Rattle.saturation.proofs.SinglesFollow.{terms-follow, terms-quiet}
+use Rattle.slots.proofs.GuardSlots.{read-slots, shape-slots, sort-slots}
+use Rattle.congruence.specs.Due.{shapesDue}
+use Rattle.congruence.proofs.ShapesFollow.{builds-follow, builds-quiet}
+use Rattle.reads.specs.Due.{defaultsDue, readsDue}
+use Rattle.reads.proofs.ReadsFollow.{absent-follow, absent-quiet, pairs-follow, pairs-quiet}
+use Rattle.singles.specs.Due.{singlesDue}
+use Rattle.singles.proofs.SinglesFollow.{terms-follow, terms-quiet}
+use Rattle.saturation.specs.Due.{allDue}
 
 module _ (limits : Limits) (sup : Supported limits) (g : Guard) (ok : WellFormed limits g) (total : length (flat (g .types)) ≤ totalVariantLimit) where
   -- ---- each family

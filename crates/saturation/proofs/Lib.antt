@@ -1,13 +1,2 @@
-pub mod MaskLaws
-pub mod DueLaws
-pub mod ReadsFollow
-pub mod ShapesFollow
-pub mod SinglesFollow
-pub mod GuardSlots
-pub mod Follows
-pub mod Tests
-pub mod Joins
-pub mod OnlyOne
 pub mod Rounds
-pub mod Singles
-pub mod KeyLaws
+pub mod Follows

@@ -3,12 +3,14 @@ use mathlib.Core.Path.{_≡_, refl, sym, subst}
 use mathlib.Core.Bool.{Bool, true, false, false≢true}
 use mathlib.Core.List.{List, _++_, Memᴰ·append-left}
 use Prim.Native.Nat.{ℕ}
-use Rattle.guard.specs.Closure.{State}
 use Rattle.laws.specs.All.{All}
-use Rattle.guard.specs.Closure.{holds}
+use Rattle.guard.specs.Closure.{State, holds}
 use Rattle.passes.specs.Pass.{Due, Pass, Saturated, Steps}
 use Rattle.passes.proofs.PassLaws.{second-tells, steps-more, steps-on}
-use Rattle.saturation.specs.Due.{allDue, defaultsDue, readsDue, shapesDue, singlesDue}
+use Rattle.congruence.specs.Due.{shapesDue}
+use Rattle.reads.specs.Due.{defaultsDue, readsDue}
+use Rattle.singles.specs.Due.{singlesDue}
+use Rattle.saturation.specs.Due.{allDue}
 
 -- a pass that changed something will do, whatever else is due
 changed-first : {due : Due} (also : Due) {s s′ : State} {r : Bool} → r ≡ true → Pass due s s′ r → Pass (λ x. due x ++ also x) s s′ true

@@ -21,10 +21,10 @@ use Rattle.guard.specs.Closure.{State, labelOf, lacks}
 use Rattle.guard.specs.Limits.{variantLimit}
 use Rattle.guard.specs.Node.{Split, holdsAnother}
 use Rattle.labels.specs.Label.{variantsIn}
-use Rattle.saturation.specs.Due.{ReadsFit, readBit, readKey, readTerm}
-use Rattle.saturation.proofs.OnlyOne.{one-left}
-use Rattle.nodes.specs.Choice.{lowestIn, onReadAt, onTermAt, readSplits, splitBy, termSplits}
-use Rattle.nodes.specs.Lowest.{lowest}
+use Rattle.loops.specs.Lowest.{lowest}
+use Rattle.slots.specs.Slots.{ReadsFit, readBit, readKey, readTerm}
+use Rattle.slots.proofs.OnlyOne.{one-left}
+use Rattle.splits.specs.Choice.{lowestIn, onReadAt, onTermAt, readSplits, splitBy, termSplits}
 
 pub record Chosen (s : State) (d : Split) : Type 0 where
   pub term : d .term < 96

@@ -24,15 +24,15 @@ use Rattle.guard.proofs.NodeLaws.{SplitsAt, cons-in-range, split-is}
 use Rattle.guard.proofs.TableLaws.{literals-in-range, table-in-range}
 use Rattle.tables.specs.Layout.{literalTable, rowTable}
 use Rattle.classes.specs.Held.{Held}
-use Rattle.problem.specs.Problem.{constantsOf, fieldlessOf, fullOf, readsOf, shapesOf, sortsOf}
 use Rattle.passes.specs.Pass.{Saturated}
 use Rattle.passes.proofs.PassLaws.{steps-keep, steps-reach}
+use Rattle.problem.specs.Problem.{constantsOf, fieldlessOf, fullOf, readsOf, shapesOf, sortsOf}
 use Rattle.saturation.specs.Due.{allDue}
 use Rattle.saturation.proofs.Follows.{all-follow, nothing-new}
-use Rattle.nodes.specs.Choice.{splitBy}
-use Rattle.nodes.specs.Reasons.{closedBy}
+use Rattle.splits.specs.Choice.{splitBy}
+use Rattle.splits.proofs.SplitLaws.{split-same}
+use Rattle.nodes.specs.Closed.{closedBy}
 use Rattle.nodes.proofs.NodeLaws.{closed-same}
-use Rattle.nodes.proofs.SplitLaws.{split-same}
 use Rattle.search.specs.Nodes.{Accepted, Begun, NodeLiterals, NodeLiterals.atIs, NodeLiterals.atIsnt, NodeLiterals.atRoot}
 
 -- ---- the literals of a node

@@ -17,9 +17,9 @@ use Rattle.guard.specs.Node.{Split}
 use Rattle.guard.proofs.ClosureState.{Keeps, add-small}
 use Rattle.classes.proofs.ClassLaws.{held-after}
 use Rattle.passes.specs.Pass.{Due, Steps, Steps.done, Steps.then}
-use Rattle.saturation.specs.Due.{ReadsFit}
-use Rattle.nodes.specs.declared.Choice.{Choice}
-use Rattle.nodes.specs.Choice.{choiceOf, splitBy}
+use Rattle.slots.specs.Slots.{ReadsFit}
+use Rattle.splits.specs.declared.Choice.{Choice}
+use Rattle.splits.specs.Choice.{choiceOf, splitBy}
 use Rattle.search.specs.Nodes.{StateFit}
 use Rattle.search.proofs.Choices.{Chosen, chosen}
 use Rattle.search.proofs.Measure.{is-lower, isnt-lower, labelSum, sum-le}

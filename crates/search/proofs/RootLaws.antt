@@ -16,17 +16,17 @@ use Rattle.guard.specs.Guard.{Guard}
 use Rattle.guard.specs.Search.{searchOf}
 use Rattle.guard.proofs.ClosureEnds.{first}
 use Rattle.guard.proofs.ClosureState.{first-small}
-use Rattle.classes.specs.Held.{Held, state}
 use Rattle.reader.specs.declared.Tables.{Tables}
 use Rattle.reader.specs.Reader.{guardTables}
+use Rattle.classes.specs.Held.{Held, state}
 use Rattle.problem.specs.declared.Problem.{Problem}
 use Rattle.problem.specs.Problem.{problemOf}
 use Rattle.problem.specs.Columns.{problemBy}
 use Rattle.problem.proofs.ProblemLaws.{problem-is}
-use Rattle.saturation.proofs.GuardSlots.{reads-fit, shapes-fit, sorts-fit}
-use Rattle.nodes.proofs.NodeLaws.{few-lines, lines-fit}
+use Rattle.slots.proofs.GuardSlots.{reads-fit, shapes-fit, sorts-fit}
 use Rattle.given.specs.Facts.{LiteralsFit, givenBy}
 use Rattle.given.proofs.GivenLaws.{begin-reached, begin-says, givenOf, literals-fit}
+use Rattle.nodes.proofs.NodeLaws.{few-lines, lines-fit}
 use Rattle.search.specs.declared.Outcome.{Outcome}
 use Rattle.search.specs.Outcome.{isOpenOutcome}
 use Rattle.search.specs.Nodes.{Accepted, ArraysFit, ArraysOf, Begun, ClearedUnlessOpen, Finds, NodeLiterals.atRoot, Searches, StateFit}

@@ -16,12 +16,12 @@ use Rattle.guard.proofs.ClosureBelow.{LiteralsInRange}
 use Rattle.guard.proofs.SearchLaws.{search-pos, search-step}
 use Rattle.guard.proofs.TableLaws.{table-in-range}
 use Rattle.classes.specs.Held.{Held}
-use Rattle.problem.specs.Problem.{fieldlessOf, readsOf, shapesOf, sortsOf}
 use Rattle.passes.specs.Pass.{Saturated}
+use Rattle.problem.specs.Problem.{fieldlessOf, readsOf, shapesOf, sortsOf}
 use Rattle.saturation.specs.Due.{allDue}
-use Rattle.nodes.specs.declared.Choice.{Choice}
-use Rattle.nodes.specs.Choice.{choiceOf, splitBy}
-use Rattle.nodes.specs.Reasons.{closedBy}
+use Rattle.splits.specs.declared.Choice.{Choice}
+use Rattle.splits.specs.Choice.{choiceOf, splitBy}
+use Rattle.nodes.specs.Closed.{closedBy}
 use Rattle.search.specs.declared.Outcome.{Outcome}
 use Rattle.search.specs.Outcome.{isClosedOutcome, leftOf, outcome}
 use Rattle.search.specs.Nodes.{Accepted, ArraysOf, Begun, OpenLeaf, Searches}

@@ -19,12 +19,12 @@ use Rattle.guard.proofs.Agreement.{Agrees}
 use Rattle.guard.proofs.AnyOrder.{Reached}
 use Rattle.guard.proofs.ClosureState.{Says, Small}
 use Rattle.tables.specs.Layout.{flat, literalTable, rowTable}
-use Rattle.classes.specs.Held.{Held, state}
 use Rattle.reader.specs.declared.Tables.{Tables}
 use Rattle.reader.specs.Reader.{guardTables}
+use Rattle.classes.specs.Held.{Held, state}
 use Rattle.problem.specs.Problem.{constantsOf, fieldlessOf, fullOf, readsOf, shapesOf, sortsOf}
-use Rattle.saturation.specs.Due.{ReadsFit, ShapesFit, SortsFit}
-use Rattle.nodes.specs.Reasons.{LinesFit}
+use Rattle.slots.specs.Slots.{ReadsFit, ShapesFit, SortsFit}
+use Rattle.reasons.specs.Reasons.{LinesFit}
 use Rattle.search.specs.declared.Outcome.{Outcome}
 use Rattle.search.specs.Outcome.{isOpenOutcome, outcome}
 

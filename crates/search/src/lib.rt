@@ -85,7 +85,7 @@ fn visit(
     ) {
         return Outcome::Closed(left - 1);
     }
-    let d = nodes::split(classes, labels, reads, sorts, fieldless);
+    let d = splits::split(classes, labels, reads, sorts, fieldless);
     if !d.found {
         return Outcome::Open(left - 1);
     }

@@ -1,11 +1,11 @@
 -- `is_due` meets its contract. Assumes nothing.
 use borrow.Author.Needs.{needs}
-use Rattle.fixedrows.proofs.is_due.Statement.{statement}
-use Rattle.fixedrows.proofs.is_due.Tie as tie
+use Rattle.loops.proofs.Tests.{no-and, yes-and}
+use Rattle.fixedrows.specs.Stage.{isDue}
 use mathlib.Core.Path.{_∙_}
 use borrow.Author.Tests.{eq-eqb, ne-eqb}
-use Rattle.nodes.proofs.Tests.{no-and, yes-and}
-use Rattle.fixedrows.specs.Stage.{isDue}
+use Rattle.fixedrows.proofs.is_due.Statement.{statement}
+use Rattle.fixedrows.proofs.is_due.Tie as tie
 
 element-copy-out-if1 : tie.Need-element-copy-out-if1
 element-copy-out-if1 c = search needs

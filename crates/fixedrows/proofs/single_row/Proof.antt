@@ -1,13 +1,13 @@
 -- `single_row` meets its contract. Assumes nothing.
 use borrow.Author.Needs.{needs}
-use Rattle.fixedrows.proofs.single_row.Statement.{statement}
-use Rattle.fixedrows.proofs.single_row.Tie as tie
+use Rattle.labels.proofs.LabelLaws.{lowest-is}
+use Rattle.splits.specs.Choice.{lowestIn}
 use mathlib.Core.Path.{_∙_, ap}
 use native.Mathlib.Omega.{arith}
 use lib.Count.{trailing-le}
-use Rattle.labels.proofs.LabelLaws.{lowest-is}
-use Rattle.nodes.specs.Choice.{lowestIn}
 use Rattle.fixedrows.proofs.FixedLaws.{none-low, single-drawn}
+use Rattle.fixedrows.proofs.single_row.Statement.{statement}
+use Rattle.fixedrows.proofs.single_row.Tie as tie
 
 element-copy-out-less : tie.Need-element-copy-out-less
 element-copy-out-less c = search needs

@@ -1,8 +1,8 @@
 -- `assert_fact` meets its contract. Assumes nothing.
 use native.Mathlib.Omega.{arith}
-use Rattle.classes.specs.Held.{state}
 use Rattle.guard.specs.Closure.{Fact.same}
-use Rattle.saturation.proofs.Joins.{still-held}
+use Rattle.classes.specs.Held.{state}
+use Rattle.classes.proofs.ClassLaws.{still-held}
 use Rattle.given.proofs.GivenTests.{equal-asserted, is-asserted, isnt-asserted, nothing-asserted}
 use borrow.Author.Needs.{needs}
 use Rattle.given.proofs.assert_fact.Statement.{statement}

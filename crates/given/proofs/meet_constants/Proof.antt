@@ -1,8 +1,8 @@
 -- `meet_constants` meets its contract. Assumes nothing.
 use native.Mathlib.Omega.{arith}
-use Rattle.classes.specs.Held.{state}
 use Rattle.guard.specs.Closure.{Fact.same}
-use Rattle.saturation.proofs.Joins.{still-held}
+use Rattle.classes.specs.Held.{state}
+use Rattle.classes.proofs.ClassLaws.{still-held}
 use Rattle.given.proofs.GivenTests.{constant-small, constants-apart, constants-joined}
 use borrow.Author.Needs.{needs}
 use Rattle.given.proofs.meet_constants.Statement.{statement}

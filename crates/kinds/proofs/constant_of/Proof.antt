@@ -2,8 +2,8 @@
 use mathlib.Core.Path.{sym, _∙_}
 use Prim.Native.Nat.{_-_, _≤_}
 use native.Mathlib.Omega.{arith}
+use Rattle.loops.proofs.Loops.{NoneBelow, lowest-here, lowest-nowhere, none-next, none-yet}
 use Rattle.kinds.specs.Found.{constantOf, isFixed}
-use Rattle.nodes.proofs.Loops.{NoneBelow, lowest-here, lowest-nowhere, none-next, none-yet}
 use Rattle.kinds.proofs.constant_of.Statement.{statement}
 use Rattle.kinds.proofs.constant_of.Tie as tie
 

@@ -6,9 +6,9 @@ use native.Mathlib.Omega.{arith}
 use lib.Dec.{eqb}
 use lib.ListN.{getD}
 use borrow.Author.Tests.{eq-eqb, ne-eqb}
-use Rattle.kinds.specs.Found.{isFixed}
+use Rattle.loops.proofs.Tests.{no-and, yes-and}
 use Rattle.given.proofs.GivenTests.{constant-small}
-use Rattle.nodes.proofs.Tests.{no-and, yes-and}
+use Rattle.kinds.specs.Found.{isFixed}
 use borrow.Author.Needs.{needs}
 use Rattle.kinds.proofs.is_fixed.Statement.{statement}
 use Rattle.kinds.proofs.is_fixed.Tie as tie

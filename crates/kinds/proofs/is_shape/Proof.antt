@@ -4,8 +4,8 @@ use Prim.Native.Nat.{ℕ}
 use native.Mathlib.Omega.{arith}
 use lib.Dec.{eqb}
 use borrow.Author.Tests.{not-false, not-true}
+use Rattle.loops.proofs.Tests.{no-and, yes-and}
 use Rattle.kinds.specs.Found.{isShape}
-use Rattle.nodes.proofs.Tests.{no-and, yes-and}
 use borrow.Author.Needs.{needs}
 use Rattle.kinds.proofs.is_shape.Statement.{statement}
 use Rattle.kinds.proofs.is_shape.Tie as tie

@@ -2,12 +2,12 @@
 use mathlib.Core.Path.{_∙_, ap, sym}
 use native.Mathlib.Omega.{arith}
 use borrow.Author.Tests.{eq-eqb, le-ltb, lt-ltb, ne-eqb}
-use Rattle.kinds.specs.Found.{isSingle}
-use Rattle.classes.specs.Held.{state}
 use Rattle.guard.specs.Closure.{labelOf}
-use Rattle.saturation.specs.Due.{onlyIs}
-use Rattle.nodes.specs.Choice.{lowestIn}
-use Rattle.nodes.proofs.Tests.{no-and, yes-and}
+use Rattle.classes.specs.Held.{state}
+use Rattle.loops.proofs.Tests.{no-and, yes-and}
+use Rattle.slots.specs.Slots.{onlyIs}
+use Rattle.splits.specs.Choice.{lowestIn}
+use Rattle.kinds.specs.Found.{isSingle}
 use borrow.Author.Needs.{needs}
 use Rattle.kinds.proofs.is_single.Statement.{statement}
 use Rattle.kinds.proofs.is_single.Tie as tie

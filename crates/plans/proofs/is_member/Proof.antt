@@ -1,14 +1,14 @@
 -- `is_member` meets its contract. Assumes nothing.
 use borrow.Author.Needs.{needs}
-use Rattle.plans.proofs.is_member.Statement.{statement}
-use Rattle.plans.proofs.is_member.Tie as tie
+use Rattle.loops.proofs.Tests.{no-and, yes-and}
+use Rattle.plans.specs.Chosen.{isMember}
 use mathlib.Core.Path.{_∙_, ap}
 use mathlib.Core.Bool.{not}
 use Prim.Native.Nat.{ℕ}
 use lib.Dec.{eqb}
 use borrow.Author.Tests.{eq-eqb, ne-eqb}
-use Rattle.nodes.proofs.Tests.{no-and, yes-and}
-use Rattle.plans.specs.Chosen.{isMember}
+use Rattle.plans.proofs.is_member.Statement.{statement}
+use Rattle.plans.proofs.is_member.Tie as tie
 
 element-copy-out-if1 : tie.Need-element-copy-out-if1
 element-copy-out-if1 c = search needs

@@ -2,7 +2,7 @@
 use mathlib.Core.Path.{sym, _∙_}
 use Prim.Native.Nat.{_-_, _≤_}
 use native.Mathlib.Omega.{arith}
-use Rattle.nodes.proofs.Loops.{NoneBelow, any-here, any-nowhere, none-next, none-yet}
+use Rattle.loops.proofs.Loops.{NoneBelow, any-here, any-nowhere, none-next, none-yet}
 use Rattle.plans.specs.Fresh.{taken, takenAt}
 use Rattle.plans.proofs.is_taken.Statement.{statement}
 use Rattle.plans.proofs.is_taken.Tie as tie

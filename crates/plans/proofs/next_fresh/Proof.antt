@@ -3,7 +3,7 @@ use mathlib.Core.Path.{ap, sym, _∙_, refl}
 use mathlib.Core.Bool.{not}
 use Prim.Native.Nat.{_-_, _≤_}
 use native.Mathlib.Omega.{arith}
-use Rattle.nodes.proofs.Loops.{NoneBelow, none-next, none-yet}
+use Rattle.loops.proofs.Loops.{NoneBelow, none-next, none-yet}
 use Rattle.plans.proofs.CodeTests.{fresh-here, fresh-past, untaken}
 use Rattle.plans.proofs.next_fresh.Statement.{statement}
 use Rattle.plans.proofs.next_fresh.Tie as tie

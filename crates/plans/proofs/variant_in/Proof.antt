@@ -3,7 +3,7 @@ use mathlib.Core.Path.{sym, _∙_}
 use Prim.Native.Nat.{_-_, _≤_}
 use native.Mathlib.Omega.{arith}
 use lib.ListN.{getD}
-use Rattle.nodes.proofs.Loops.{NoneBelow, lowest-here, lowest-nowhere, none-next, none-yet}
+use Rattle.loops.proofs.Loops.{NoneBelow, lowest-here, lowest-nowhere, none-next, none-yet}
 use Rattle.plans.specs.Chosen.{heldAt, variantEntry}
 use Rattle.plans.proofs.variant_in.Statement.{statement}
 use Rattle.plans.proofs.variant_in.Tie as tie

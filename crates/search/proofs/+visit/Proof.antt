@@ -3,27 +3,27 @@ use mathlib.Core.Path.{_≡_, _∙_, sym}
 use native.Mathlib.Omega.{arith}
 use Rattle.guard.specs.Closure.{Fact.within}
 use borrow.Author.Tests.{not-false, not-true}
-use Rattle.passes.proofs.PassLaws.{steps-keep}
-use Rattle.nodes.specs.Choice.{splitBy}
-use Rattle.search.specs.Outcome.{leftOf}
-use Rattle.search.proofs.Decisions.{decision, is-child, is-decided, bit-most, fit-add, fit-steps, is-falls, isnt-child, isnt-falls, term-small, variant-small}
-use Rattle.search.proofs.VisitLaws.{closed-node, first-ends, no-choice, nothing-left, open-node, second-ends}
+use Rattle.labels.proofs.only.Reads as only-reads
 use Rattle.classes.specs.Held.{state}
-use Rattle.search.proofs.Measure.{labelSum}
+use Rattle.classes.proofs.restrict.Reads as restrict-reads
+use Rattle.passes.proofs.PassLaws.{steps-keep}
+use Rattle.saturation.proofs.saturate.Reads as saturate-reads
+use Rattle.splits.specs.Choice.{splitBy}
+use Rattle.splits.proofs.split.Reads as split-reads
 use Prim.Native.Nat.{ℕ, _-_, _<_}
 use borrow.Fn.Kinds.{In}
 use borrow.Fn.PlainCycle.{Measures, is, falls, and}
-use Rattle.search.proofs.visit.Reads as visit
+use Rattle.nodes.proofs.is_closed.Reads as is-closed-reads
+use Rattle.search.specs.Outcome.{leftOf}
+use Rattle.search.proofs.Decisions.{bit-most, decision, fit-add, fit-steps, is-child, is-decided, is-falls, isnt-child, isnt-falls, term-small, variant-small}
+use Rattle.search.proofs.VisitLaws.{closed-node, first-ends, no-choice, nothing-left, open-node, second-ends}
+use Rattle.search.proofs.Measure.{labelSum}
 use Rattle.search.proofs.visit.Kinds as visit-kinds
 use Rattle.search.proofs.+visit.Lts-visit as visit-lts
-use Rattle.classes.proofs.restrict.Reads as restrict-reads
-use Rattle.labels.proofs.only.Reads as only-reads
-use Rattle.nodes.proofs.is_closed.Reads as is-closed-reads
-use Rattle.nodes.proofs.split.Reads as split-reads
-use Rattle.saturation.proofs.saturate.Reads as saturate-reads
+use Rattle.search.proofs.+visit.{statement}
+use Rattle.search.proofs.visit.Reads as visit
 use Rattle.search.proofs.is_closed.Reads as is-closed-reads′
 use Rattle.search.proofs.left_of.Reads as left-of-reads
-use Rattle.search.proofs.+visit.{statement}
 use Rattle.search.proofs.+visit.Tie.{close}
 
 abbrev μ-visit : Measures 12 visit-kinds.ps ℕ

@@ -1,0 +1,115 @@
+// Terms of one fieldless variant alone are equal: one pass with a table of the first term met of each.
+ghost use mathlib.Core.Path.{_≡_};
+ghost use Prim.Native.Nat.{_+_, _<_};
+ghost use Rattle.classes.specs.Held.{Held, state};
+ghost use Rattle.passes.specs.Pass.{Pass};
+ghost use Rattle.slots.specs.Slots.{SortsFit};
+ghost use Rattle.singles.specs.Due.{singlesDue};
+ghost use Rattle.singles.specs.Entered.{Advance, SeenFit, placeOf};
+use slots::fieldless_of;
+use slots::only_is;
+
+// The place of a term's variant in the table of terms met.
+fn place(sorts: &[u8; 96], x: u8, v: u32) -> usize
+    requires { ⌜ (x < 96) × (v < 16) ⌝ }
+    requires { ⌜ SortsFit (now sorts) ⌝ }
+    ensures { λ r. ⌜ r ≡ placeOf (now (sorts .entry)) x v ⌝ }
+{
+    16 * (sorts[x as usize] as usize) + (v as usize)
+}
+
+// A term of one fieldless variant is equal to the first such term, or is the first.
+fn enter(
+    classes: &mut [u8; 96],
+    labels: &mut [u16; 96],
+    sorts: &[u8; 96],
+    fieldless: &[u16; 8],
+    seen: &mut [u8; 112],
+    x: u8,
+    v: u32,
+) -> bool
+    requires { ⌜ (x < 78) × (v < 16) ⌝ }
+    requires { ⌜ Held (now classes) ⌝ }
+    requires { ⌜ SortsFit (now sorts) ⌝ }
+    requires { ⌜ SeenFit (now sorts) (now seen) x v ⌝ }
+    ensures { λ r. ⌜ Advance (now (sorts .entry)) (now (fieldless .entry)) (state (now (classes .entry)) (now (labels .entry))) (now (seen .entry)) x v (state (now (classes .exit)) (now (labels .exit))) (now (seen .exit)) x (v + 1) r ⌝ }
+    ensures { λ r. ⌜ SeenFit (now (sorts .entry)) (now (seen .exit)) x (v + 1) ⌝ }
+    ensures { λ r. ⌜ Held (now (classes .exit)) ⌝ }
+{
+    if !only_is(classes, labels, sorts, fieldless, x, v) {
+        return false;
+    }
+    let w = place(sorts, x, v);
+    let y = seen[w];
+    if y == 255 {
+        seen[w] = x;
+        return false;
+    }
+    if !only_is(classes, labels, sorts, fieldless, y, v) {
+        return false;
+    }
+    classes::unite(classes, labels, y, x)
+}
+
+// A term at all its variants: at one, or at each where the label is empty.
+fn enter_term(
+    classes: &mut [u8; 96],
+    labels: &mut [u16; 96],
+    sorts: &[u8; 96],
+    fieldless: &[u16; 8],
+    seen: &mut [u8; 112],
+    x: u8,
+) -> bool
+    requires { ⌜ x < 78 ⌝ }
+    requires { ⌜ Held (now classes) ⌝ }
+    requires { ⌜ SortsFit (now sorts) ⌝ }
+    requires { ⌜ SeenFit (now sorts) (now seen) x 0 ⌝ }
+    ensures { λ r. ⌜ Advance (now (sorts .entry)) (now (fieldless .entry)) (state (now (classes .entry)) (now (labels .entry))) (now (seen .entry)) x 0 (state (now (classes .exit)) (now (labels .exit))) (now (seen .exit)) (x + 1) 0 r ⌝ }
+    ensures { λ r. ⌜ SeenFit (now (sorts .entry)) (now (seen .exit)) (x + 1) 0 ⌝ }
+    ensures { λ r. ⌜ Held (now (classes .exit)) ⌝ }
+{
+    if fieldless_of(sorts, fieldless, x) == 0 {
+        return false;
+    }
+    let label = classes::label_of(classes, labels, x);
+    if labels::size(label) > 1 {
+        return false;
+    }
+    let mut v = labels::lowest(label);
+    let mut end = v + 1;
+    if v == 16 {
+        v = 0;
+        end = 16;
+    }
+    let mut changed = false;
+    while v < end {
+        if enter(classes, labels, sorts, fieldless, seen, x, v) {
+            changed = true;
+        }
+        v += 1;
+    }
+    changed
+}
+
+pub fn pass_singles(
+    classes: &mut [u8; 96],
+    labels: &mut [u16; 96],
+    sorts: &[u8; 96],
+    fieldless: &[u16; 8],
+) -> bool
+    requires { ⌜ Held (now classes) ⌝ }
+    requires { ⌜ SortsFit (now sorts) ⌝ }
+    ensures { λ r. ⌜ Pass (singlesDue (now (sorts .entry)) (now (fieldless .entry))) (state (now (classes .entry)) (now (labels .entry))) (state (now (classes .exit)) (now (labels .exit))) r ⌝ }
+    ensures { λ r. ⌜ Held (now (classes .exit)) ⌝ }
+{
+    let mut seen = [255u8; 112];
+    let mut changed = false;
+    let mut x: u8 = 0;
+    while x < 78 {
+        if enter_term(classes, labels, sorts, fieldless, &mut seen, x) {
+            changed = true;
+        }
+        x += 1;
+    }
+    changed
+}

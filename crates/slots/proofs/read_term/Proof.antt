@@ -1,0 +1,24 @@
+-- `read_term` meets its contract. Assumes nothing.
+use native.Mathlib.Omega.{arith}
+use borrow.Author.Needs.{needs}
+use Rattle.slots.proofs.read_term.Statement.{statement}
+use Rattle.slots.proofs.read_term.Tie as tie
+
+mul-result : tie.Need-mul-result
+mul-result c = search needs
+
+mul-result-2 : tie.Need-mul-result-2
+mul-result-2 c = search needs
+
+element-copy-out-result : tie.Need-element-copy-out-result
+element-copy-out-result c = search needs
+
+cast-result : tie.Need-cast-result
+cast-result c = omega (arith, c .before .pre .1 .term (c .before .args .k) (c .before .pre .0))
+
+returns : tie.Need-returns
+returns c = search needs
+
+pub read-term-spec : {M : Type 1} → statement M
+read-term-spec =
+    tie.close (tie.spec mul-result mul-result-2 element-copy-out-result cast-result returns)
