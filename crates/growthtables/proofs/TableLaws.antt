@@ -20,8 +20,8 @@ use Rattle.tables.specs.Layout.{TypesInRange, pad, typesOf}
 use Rattle.tables.specs.declared.TypeTable.{TypeTable}
 use Rattle.tables.proofs.Columns.{pad-get}
 use Rattle.tables.proofs.Held.{fields-small, held-arity, held-many, held-sort, held-variants, placeOf}
-use Rattle.datatypes.specs.Facts.{finiteColumn, flagged}
-use Rattle.datatypes.proofs.FiniteLaws.{finite-flagged}
+use Rattle.finite.specs.Finite.{finiteColumn, flagged}
+use Rattle.finite.proofs.FiniteLaws.{finite-flagged}
 use Rattle.growth.proofs.Growth.{chosenField, growingVariant, nextType, stepsToNumber}
 use Rattle.growth.proofs.Orbit.{distance, iterate, iterate-less, period, root}
 use Rattle.growthtables.specs.Entries.{chosenEntry, distanceEntry, fieldedAt, filled, growingEntry, infiniteAt, nextEntry, numberAfter, onTo, periodEntry, rootEntry, sortAt, stepsEntry}

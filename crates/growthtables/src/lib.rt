@@ -1,6 +1,6 @@
 // How messages of each type grow, from the table of types: what the drawing of fresh messages needs, made once a file.
 // `specs/Growth.antt` says what each entry is, `specs/Entries.antt` how it comes from the columns.
-use datatypes::finite_types;
+use finite::finite_types;
 use tables::TypeTable;
 ghost use mathlib.Core.Path.{_≡_};
 ghost use mathlib.Core.Bool.{cond};
