@@ -9,7 +9,6 @@ use borrow.Author.Tests.{eq-eqb, ne-eqb}
 use Rattle.laws.specs.Lists.{all, any, from}
 use Rattle.guard.specs.Types.{Types, infiniteFields, variantsOf}
 use Rattle.datatypes.specs.Facts.{allGrowing, growing}
-use Rattle.defaults.specs.Settled.{allSettled, isSettled, settled}
 use Rattle.finite.specs.TypeColumns.{fieldsAt, typesIn}
 use Rattle.finite.specs.Finite.{finiteColumn, flagged}
 use Rattle.finite.proofs.FiniteLaws.{finite-flagged}

@@ -22,7 +22,7 @@ use Rattle.growth.proofs.Orbit.{distance-less, distance-root, iterate, iterate-
 use Rattle.growth.proofs.Plans.{Plan.into, plannedMessage}
 use Rattle.growthtables.specs.Growth.{growthBy}
 use Rattle.growthtables.specs.declared.Growth.{Growth}
-use Rattle.growthtables.proofs.TableLaws.{filled-at}
+use Rattle.columns.proofs.Filled.{filled-at}
 use Rattle.growthrows.specs.declared.Forms.{Forms}
 use Rattle.growthrows.specs.Forms.{FormsFit, typesIn}
 use Rattle.growthrows.specs.Drawing.{Drew, NumberDrawn, Room, Store, Under}

@@ -2,7 +2,7 @@
 -- it looks at in one array. Assumes nothing: definitions.
 use mathlib.Core.List.{List, [], _∷_, _++_, map}
 use mathlib.Core.Option.{Option, none, some}
-use Prim.Native.Nat.{ℕ, suc, _+_, _*_, _-_, _^_}
+use Prim.Native.Nat.{ℕ, suc, _+_, _-_, _^_}
 use lib.ListN.{length, getD}
 use Rattle.laws.specs.Lists.{concatMap, from, sum}
 use Rattle.guard.specs.Closure.{everyVariant}

@@ -9,7 +9,7 @@ use lib.ListN.{length, drop, getD, take}
 use lib.Seq.{getD-take, length-take-le}
 use borrow.Author.Tests.{eq-eqb, ne-eqb}
 use Rattle.guard.specs.File.{name}
-use Rattle.guard.specs.Guard.{Row, Row.constant, Row.field, Row.variable}
+use Rattle.guard.specs.Guard.{Row, Row.constant, Row.variable}
 use Rattle.guard.specs.Number.{Parsed.refused, Parser, _>>=_, _>>_, ask, return, unfoldSigned, unsigned}
 use Rattle.guard.specs.Types.{Types, isNumber, variantsOf}
 use Rattle.rowparts.specs.ByTypes.{builtOf, builtRow, constantRow, fieldOf, fieldRow, variableRow, variantTermBy}

@@ -2,7 +2,7 @@
 use mathlib.Core.Path.{_≡_}
 use Prim.Native.Nat.{_-_, _≤_}
 use native.Mathlib.Omega.{arith}
-use Rattle.siblings.proofs.EntryLaws.{filled-end, filled-next, filled-none}
+use Rattle.columns.proofs.Filled.{filled-end, filled-next, filled-none}
 use Rattle.columns.specs.Entries.{filled}
 use Rattle.reads.specs.Reads.{readEntry}
 use borrow.Author.Needs.{needs}
