@@ -2,9 +2,9 @@
 use mathlib.Core.Path.{_∙_}
 use native.Mathlib.Omega.{arith}
 use borrow.Author.Needs.{needs}
-use Rattle.typereader.proofs.Readers.{fields-inside, variant-done, variant-stop, variant-stop-fields}
-use Rattle.typereader.proofs.read_variant.Statement.{statement}
-use Rattle.typereader.proofs.read_variant.Tie as tie
+use Rattle.variantreader.proofs.Readers.{fields-inside, variant-done, variant-stop, variant-stop-fields}
+use Rattle.variantreader.proofs.read_variant.Statement.{statement}
+use Rattle.variantreader.proofs.read_variant.Tie as tie
 
 read-below-requires : tie.Need-read-below-requires
 read-below-requires c κs = search needs

@@ -1,8 +1,8 @@
 -- Each store is the definition's, and every index is in its column. Assumes nothing.
 use mathlib.Core.Path.{refl}
 use borrow.Author.Needs.{needs}
-use Rattle.typereader.proofs.store_variant.Statement.{statement}
-use Rattle.typereader.proofs.store_variant.Tie as tie
+use Rattle.variantreader.proofs.store_variant.Statement.{statement}
+use Rattle.variantreader.proofs.store_variant.Tie as tie
 
 returns : tie.Need-returns
 returns c = (refl, refl)

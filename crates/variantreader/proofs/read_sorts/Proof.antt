@@ -4,9 +4,9 @@ use mathlib.Core.Path.{_∙_}
 use Prim.Native.Nat.{_≤_, _-_}
 use native.Mathlib.Omega.{arith}
 use borrow.Author.Needs.{needs}
-use Rattle.typereader.proofs.Readers.{SomeSorts, number-small, sorts-done, sorts-next, sorts-start, sorts-stop}
-use Rattle.typereader.proofs.read_sorts.Statement.{statement}
-use Rattle.typereader.proofs.read_sorts.Tie as tie
+use Rattle.variantreader.proofs.Readers.{SomeSorts, number-small, sorts-done, sorts-next, sorts-start, sorts-stop}
+use Rattle.variantreader.proofs.read_sorts.Statement.{statement}
+use Rattle.variantreader.proofs.read_sorts.Tie as tie
 
 abbrev Inv-loop : tie.InvT-loop
 Inv-loop bytes at arity many sorts₀ next₀ i₀ sorts next i = (i ≤ arity) × SomeSorts bytes at arity many i next sorts

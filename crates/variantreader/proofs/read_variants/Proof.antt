@@ -3,9 +3,9 @@
 use Prim.Native.Nat.{_≤_, _-_}
 use native.Mathlib.Omega.{arith}
 use borrow.Author.Needs.{needs}
-use Rattle.typereader.proofs.Readers.{SomeVariants, variants-done, variants-next, variants-start, variants-stop}
-use Rattle.typereader.proofs.read_variants.Statement.{statement}
-use Rattle.typereader.proofs.read_variants.Tie as tie
+use Rattle.variantreader.proofs.Readers.{SomeVariants, variants-done, variants-next, variants-start, variants-stop}
+use Rattle.variantreader.proofs.read_variants.Statement.{statement}
+use Rattle.variantreader.proofs.read_variants.Tie as tie
 
 abbrev Inv-loop : tie.InvT-loop
 Inv-loop bytes at count many w arities₀ sorts₀ next₀ i₀ arities sorts next i = (i ≤ count) × SomeVariants bytes at count many w arities₀ sorts₀ i next arities sorts
