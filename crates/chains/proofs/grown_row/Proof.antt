@@ -1,8 +1,8 @@
 -- `grown_row` meets its contract. Assumes nothing.
 use borrow.Author.Needs.{needs}
-use Rattle.freerows.proofs.grown_row.Statement.{statement}
-use Rattle.freerows.proofs.grown_row.Tie as tie
-use Rattle.freerows.proofs.ChainLaws.{over-drew, over-room, over-type, over-under, room-less, start-less}
+use Rattle.chains.proofs.grown_row.Statement.{statement}
+use Rattle.chains.proofs.grown_row.Tie as tie
+use Rattle.chains.proofs.ChainLaws.{over-drew, over-room, over-type, over-under, room-less, start-less}
 use Prim.Native.Nat.{_+_}
 use native.Mathlib.Omega.{arith}
 

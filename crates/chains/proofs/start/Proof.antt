@@ -1,7 +1,7 @@
 -- `start` meets its contract. Assumes nothing.
 use borrow.Author.Needs.{needs}
-use Rattle.freerows.proofs.start.Statement.{statement}
-use Rattle.freerows.proofs.start.Tie as tie
+use Rattle.chains.proofs.start.Statement.{statement}
+use Rattle.chains.proofs.start.Tie as tie
 use Rattle.growth.proofs.Growth.{chosen-inside}
 use mathlib.Core.Path.{ap, sym, _∙_, subst}
 use Prim.Native.Nat.{ℕ, _<_}

@@ -1,8 +1,8 @@
 -- `circled_row` meets its contract. Assumes nothing.
 use borrow.Author.Needs.{needs}
-use Rattle.freerows.proofs.circled_row.Statement.{statement}
-use Rattle.freerows.proofs.circled_row.Tie as tie
-use Rattle.freerows.proofs.ChainLaws.{circle-room, circled-drew, circled-noted, circled-room, circled-type, distance-grows, distance-read, root-back, root-cyclic, root-inside, root-read, start-less}
+use Rattle.chains.proofs.circled_row.Statement.{statement}
+use Rattle.chains.proofs.circled_row.Tie as tie
+use Rattle.chains.proofs.ChainLaws.{circle-room, circled-drew, circled-noted, circled-room, circled-type, distance-grows, distance-read, root-back, root-cyclic, root-inside, root-read, start-less}
 use lib.ListN.{getD}
 use Rattle.growthrows.proofs.FormLaws.{type-small}
 

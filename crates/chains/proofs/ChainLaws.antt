@@ -29,7 +29,7 @@ use Rattle.growthrows.specs.Drawing.{Drew, NumberDrawn, Room, Store, Under}
 use Rattle.growthrows.proofs.DrawnLaws.{drew-after, drew-nothing, drew-room, drew-under, under-trans}
 use Rattle.growthrows.proofs.FormLaws.{period-read}
 use Rattle.growthrows.proofs.StepLaws.{Grew, grew-type}
-use Rattle.freerows.specs.Chains.{LapNoted, Starts, TopsTyped, lapMessage, topFrom, topMessage}
+use Rattle.chains.specs.Chains.{LapNoted, Starts, TopsTyped, lapMessage, topFrom, topMessage}
 
 -- ---- costs
 

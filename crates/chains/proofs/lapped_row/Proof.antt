@@ -1,8 +1,8 @@
 -- `lapped_row` meets its contract. Assumes nothing.
 use borrow.Author.Needs.{needs}
-use Rattle.freerows.proofs.lapped_row.Statement.{statement}
-use Rattle.freerows.proofs.lapped_row.Tie as tie
-use Rattle.freerows.proofs.ChainLaws.{lap-drew, lap-room, lap-start, room-less}
+use Rattle.chains.proofs.lapped_row.Statement.{statement}
+use Rattle.chains.proofs.lapped_row.Tie as tie
+use Rattle.chains.proofs.ChainLaws.{lap-drew, lap-room, lap-start, room-less}
 use mathlib.Core.Path.{ap}
 use native.Mathlib.Omega.{arith}
 use native.Mathlib.Numerals.{add-one}

@@ -1,8 +1,8 @@
 -- `top_row` meets its contract. Assumes nothing.
 use borrow.Author.Needs.{needs}
-use Rattle.freerows.proofs.top_row.Statement.{statement}
-use Rattle.freerows.proofs.top_row.Tie as tie
-use Rattle.freerows.proofs.ChainLaws.{top-default, top-known, top-low}
+use Rattle.chains.proofs.top_row.Statement.{statement}
+use Rattle.chains.proofs.top_row.Tie as tie
+use Rattle.chains.proofs.ChainLaws.{top-default, top-known, top-low}
 use Rattle.growthrows.proofs.FormLaws.{type-small}
 use native.Mathlib.Omega.{arith}
 

@@ -1,8 +1,8 @@
 -- `ended_row` meets its contract. Assumes nothing.
 use borrow.Author.Needs.{needs}
-use Rattle.freerows.proofs.ended_row.Statement.{statement}
-use Rattle.freerows.proofs.ended_row.Tie as tie
-use Rattle.freerows.proofs.ChainLaws.{end-grows, end-room, end-store, end-there, end-type, ended-drew, start-less, steps-read}
+use Rattle.chains.proofs.ended_row.Statement.{statement}
+use Rattle.chains.proofs.ended_row.Tie as tie
+use Rattle.chains.proofs.ChainLaws.{end-grows, end-room, end-store, end-there, end-type, ended-drew, start-less, steps-read}
 use lib.ListN.{getD}
 use Rattle.growthrows.proofs.FormLaws.{type-small}
 use mathlib.Core.Path.{subst}

@@ -1,8 +1,8 @@
 -- `turns` meets its contract. Assumes nothing.
 use borrow.Author.Needs.{needs}
-use Rattle.freerows.proofs.turns.Statement.{statement}
-use Rattle.freerows.proofs.turns.Tie as tie
-use Rattle.freerows.proofs.ChainLaws.{period-some, turns-lap, turns-small}
+use Rattle.chains.proofs.turns.Statement.{statement}
+use Rattle.chains.proofs.turns.Tie as tie
+use Rattle.chains.proofs.ChainLaws.{period-some, turns-lap, turns-small}
 use Rattle.growthrows.proofs.FormLaws.{type-small}
 use Rattle.tables.proofs.Held.{held-many}
 use native.Mathlib.Omega.{arith}
