@@ -28,7 +28,7 @@ use Rattle.siblings.proofs.ReadLaws.{read-fields-at}
 use Rattle.problem.specs.Problem.{defaultShape, rowShape, shape, shapesOf}
 use Rattle.rowshapes.specs.RowShapes.{kindNumber}
 use Rattle.rowshapes.specs.RowShapes.{arityOf, othersOf, ownerOf, partPlace, rowPart, rowPlace, shapePlace}
-use Rattle.shapes.specs.Shapes.{defaultPart, defaultPlace, shapeEntry}
+use Rattle.shapecolumn.specs.Shapes.{defaultPart, defaultPlace, shapeEntry}
 use Rattle.columns.proofs.EntryLaws.{bit-is}
 use Rattle.problem.proofs.SlotLaws.{default-shape-at, field-length, no-default-shape, no-row-shape, row-shape-at}
 

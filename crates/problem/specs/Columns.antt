@@ -2,9 +2,9 @@
 -- For the tables of a well-formed guard it is that of `Problem`. Assumes nothing: definitions.
 use Rattle.reader.specs.declared.Tables.{Tables}
 use Rattle.columns.specs.Entries.{filled}
-use Rattle.shapes.specs.Shapes.{shapeEntry}
-use Rattle.reads.specs.Reads.{constantEntry, readEntry}
-use Rattle.sorts.specs.Sorts.{fieldlessEntry, fullEntry, sortEntry}
+use Rattle.shapecolumn.specs.Shapes.{shapeEntry}
+use Rattle.readcolumn.specs.Reads.{constantEntry, readEntry}
+use Rattle.sortcolumn.specs.Sorts.{fieldlessEntry, fullEntry, sortEntry}
 use Rattle.problem.specs.declared.Problem.{Problem}
 
 -- what `problem_of` computes

@@ -13,7 +13,7 @@ use Rattle.guard.specs.Types.{Types, Variant, defaults, fieldsOf, variantsOf}
 use Rattle.tables.specs.Layout.{pad}
 use Rattle.siblings.specs.Siblings.{siblingsIn}
 pub use Rattle.rowshapes.specs.RowShapes.{kindNumber}
-pub use Rattle.reads.specs.Reads.{fieldKey}
+pub use Rattle.readcolumn.specs.Reads.{fieldKey}
 use Rattle.problem.specs.declared.Problem.{Problem}
 
 -- ---- shapes: terms built by a variant, or so built as soon as their label is that variant alone

@@ -32,16 +32,16 @@ pub fn problem_of(tables: Tables) -> Problem
     let counts = types.variants;
     let first = types.first;
     let arities = types.arities;
-    let constants = reads::constant_entries(types.many, &kinds, &sorts, &counts);
-    let fieldless = sorts::fieldless_entries(&counts, &first, &arities);
-    let full = sorts::full_entries(&counts);
-    let reads = reads::read_entries(&kinds, &sorts, &variants, &parts);
+    let constants = readcolumn::constant_entries(types.many, &kinds, &sorts, &counts);
+    let fieldless = sortcolumn::fieldless_entries(&counts, &first, &arities);
+    let full = sortcolumn::full_entries(&counts);
+    let reads = readcolumn::read_entries(&kinds, &sorts, &variants, &parts);
     let others = siblings.sorts;
-    let terms = sorts::sort_entries(rows.many, types.many, &sorts, &others);
+    let terms = sortcolumn::sort_entries(rows.many, types.many, &sorts, &others);
     let fields = siblings.fields;
     let defaults = tables.defaults;
     let field_sorts = types.sorts;
-    let shapes = shapes::shape_entries(
+    let shapes = shapecolumn::shape_entries(
         &kinds,
         &sorts,
         &variants,

@@ -6,12 +6,12 @@ use Rattle.problem.proofs.problem_of.Statement.{statement}
 use Rattle.problem.proofs.problem_of.Tie as tie
 use Rattle.problem.proofs.problem_of.Reads as reads
 use Rattle.problem.proofs.problem_of.Lts as lts
-use Rattle.reads.proofs.constant_entries.Reads as constant-entries-reads
-use Rattle.sorts.proofs.fieldless_entries.Reads as fieldless-entries-reads
-use Rattle.sorts.proofs.full_entries.Reads as full-entries-reads
-use Rattle.reads.proofs.read_entries.Reads as read-entries-reads
-use Rattle.shapes.proofs.shape_entries.Reads as shape-entries-reads
-use Rattle.sorts.proofs.sort_entries.Reads as sort-entries-reads
+use Rattle.readcolumn.proofs.constant_entries.Reads as constant-entries-reads
+use Rattle.sortcolumn.proofs.fieldless_entries.Reads as fieldless-entries-reads
+use Rattle.sortcolumn.proofs.full_entries.Reads as full-entries-reads
+use Rattle.readcolumn.proofs.read_entries.Reads as read-entries-reads
+use Rattle.shapecolumn.proofs.shape_entries.Reads as shape-entries-reads
+use Rattle.sortcolumn.proofs.sort_entries.Reads as sort-entries-reads
 
 constant-entries-requires : tie.Need-constant-entries-requires
 constant-entries-requires c κs = search needs
