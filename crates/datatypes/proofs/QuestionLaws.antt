@@ -1,5 +1,4 @@
--- The questions 8 and 9 on columns, a turn at a time; and that on the columns of defaults and of finite types they are
--- document 01's questions. Assumes nothing.
+-- Question 9 on columns, a turn at a time; and that on the column of finite types it is document 01's. Assumes nothing.
 use mathlib.Core.Path.{_≡_, ap, sym, _∙_}
 use mathlib.Core.Bool.{Bool, true, false, not, _||_}
 use mathlib.Core.List.{List}
@@ -9,25 +8,12 @@ use lib.ListN.{length, getD}
 use borrow.Author.Tests.{eq-eqb, ne-eqb}
 use Rattle.laws.specs.Lists.{all, any, from}
 use Rattle.guard.specs.Types.{Types, infiniteFields, variantsOf}
-use Rattle.datatypes.specs.Facts.{allGrowing, allSettled, fieldsAt, finiteColumn, flagged, growing, isSettled, settled, typesIn}
-use Rattle.datatypes.proofs.FiniteLaws.{finite-flagged}
-use Rattle.datatypes.proofs.FlatTypes.{fields-any, fields-length, types-all}
-use Rattle.datatypes.proofs.Walks.{from-start}
-
--- ---- question 8
-pub settled-yes : (settled : List ℕ) (t : ℕ) → ¬ (getD settled t 0 ≡ 255) → isSettled settled t ≡ true
-unfolding isSettled
-settled-yes settled t n = ap not (ne-eqb _ _ n)
-
-pub settled-no : (settled : List ℕ) (t : ℕ) → getD settled t 0 ≡ 255 → isSettled settled t ≡ false
-unfolding isSettled
-settled-no settled t e = ap not (eq-eqb _ _ e)
-
-pub settled-start : (settled : List ℕ) (n : ℕ) → allSettled settled n ≡ all (isSettled settled) (from (n - 0) 0)
-unfolding allSettled
-settled-start settled n = ap (all (isSettled settled)) (sym (from-start n))
-
--- ---- question 9
+use Rattle.datatypes.specs.Facts.{allGrowing, growing}
+use Rattle.finite.specs.TypeColumns.{fieldsAt, typesIn}
+use Rattle.finite.specs.Finite.{finiteColumn, flagged}
+use Rattle.finite.proofs.FiniteLaws.{finite-flagged}
+use Rattle.finite.proofs.FlatTypes.{fields-any, fields-length, types-all}
+use Rattle.finite.proofs.Walks.{from-start}
 
 module _ (arities sorts known : List ℕ) (w : ℕ) where
   -- a field of infinite type

@@ -39,9 +39,9 @@ use Rattle.plans.proofs.CountLaws.{circled-next, ends-few, ends-next, root-inde
 use Rattle.plans.proofs.FreshLaws.{fresh-few, next-near}
 use Rattle.leaf.specs.Leaf.{openState}
 use Rattle.leaf.specs.declared.Leaf.{Leaf}
-use Rattle.freerows.specs.Chains.{LapNoted, Starts, TopsTyped, lapMessage, topFrom, topMessage}
+use Rattle.chains.specs.Chains.{LapNoted, Starts, TopsTyped, lapMessage, topFrom, topMessage}
 use Rattle.freerows.specs.Free.{ClassFits, FreeDrawn, FreeNow, Tops, chainTop, freeMessage, lastFresh}
-use Rattle.freerows.proofs.ChainLaws.{drew-more, grown-type, start-less, types-few}
+use Rattle.chains.proofs.ChainLaws.{drew-more, grown-type, start-less, types-few}
 
 -- a fresh number is an i32
 pub fresh-fits : (constants : List ℕ) (values : List ℤ) (last n : ℕ) → last ≤ 4096 → n ≡ nextFresh constants values last → SFits w32 (pos n)

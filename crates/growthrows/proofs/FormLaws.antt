@@ -22,12 +22,13 @@ use Rattle.tables.proofs.Lookups.{flat-all}
 use Rattle.tables.proofs.TypesBack.{types-back}
 use Rattle.growth.proofs.Growth.{TypesAccepted, chosenField, growingVariant, next-less, nextType, periodOf, types-accepted}
 use Rattle.growth.proofs.Orbit.{iterate}
-use Rattle.growthtables.specs.Entries.{onTo}
+use Rattle.orbits.specs.Orbits.{onTo}
 use Rattle.growthtables.specs.Growth.{GrowthInRange, chosenAt, growthBy}
 use Rattle.growthtables.specs.declared.Growth.{Growth}
 use Rattle.growthtables.proofs.FitLaws.{accepted-range}
 use Rattle.growthtables.proofs.RangeLaws.{growth-in-range}
-use Rattle.growthtables.proofs.TableLaws.{chosen-held, filled-at}
+use Rattle.growthtables.proofs.TableLaws.{chosen-held}
+use Rattle.columns.proofs.Filled.{filled-at}
 use Rattle.growthrows.specs.declared.Forms.{Forms}
 use Rattle.growthrows.specs.Forms.{FormsFit, typesIn}
 

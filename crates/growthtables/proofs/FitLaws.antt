@@ -14,7 +14,8 @@ use Rattle.tables.proofs.Lookups.{first-at, flat-all, offsetOf, variants-at}
 use Rattle.tables.proofs.TypesBack.{many-is, table-in-range, types-back}
 use Rattle.growth.proofs.Growth.{chosenField, distanceOf, growingVariant, nextType, periodOf, rootOf, stepsToNumber}
 use Rattle.growthtables.specs.Growth.{GrowthFits, chosenAt, growthBy, perType}
-use Rattle.growthtables.proofs.TableLaws.{chosen-held, filled-at}
+use Rattle.growthtables.proofs.TableLaws.{chosen-held}
+use Rattle.columns.proofs.Filled.{filled-at}
 
 module _ (ts : Types) (range : TypesInRange (typeTable ts)) (few : All (λ fs. length fs ≤ fieldLimit) (flat ts)) where
   -- one entry for each type

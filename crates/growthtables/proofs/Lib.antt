@@ -1,5 +1,3 @@
-pub mod Loops
-pub mod EntryLaws
 pub mod TableLaws
 pub mod FitLaws
 pub mod RangeLaws

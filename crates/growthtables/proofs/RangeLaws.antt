@@ -13,9 +13,10 @@ use Rattle.tables.specs.declared.TypeTable.{TypeTable}
 use Rattle.tables.proofs.Held.{held-many, held-variants}
 use Rattle.growth.proofs.Growth.{distanceOf, growingVariant, nextType, periodOf, rootOf, stepsToNumber}
 use Rattle.growth.proofs.Orbit.{distance, iterate, period-most, root, root-less}
-use Rattle.growthtables.specs.Entries.{filled}
+use Rattle.columns.specs.Entries.{filled}
 use Rattle.growthtables.specs.Growth.{GrowthInRange, chosenAt, growthBy, perType}
-use Rattle.growthtables.proofs.TableLaws.{filled-at, filled-past, next-inside}
+use Rattle.columns.proofs.Filled.{filled-at, filled-past}
+use Rattle.growthtables.proofs.TableLaws.{next-inside}
 
 -- zeros stand behind the entries
 filled-most : (n : ℕ) (f : ℕ → ℕ) (i most : ℕ) → ((k : ℕ) → k < i → f k ≤ most) → (k : ℕ) → getD (filled n f i) k 0 ≤ most

@@ -3,47 +3,30 @@
 -- definition both have 0, so they are one function. Assumes nothing.
 use mathlib.Core.Path.{_≡_, ap, sym, _∙_, fun-ext}
 use mathlib.Core.Bool.{Bool, cond, not}
-use mathlib.Core.List.{List, [], map}
+use mathlib.Core.List.{List, []}
 use Prim.Native.Nat.{ℕ, _+_, _*_, _≤_, _<_}
-use native.Mathlib.Nat.{zero-add}
 use native.Mathlib.Omega.{arith}
 use lib.Dec.{eqb, ltb}
 use lib.ListN.{length, getD, List·getD-eq-default}
 use borrow.Author.Tests.{ltb-false, ltb-true}
-use Rattle.laws.specs.Lists.{from}
 use Rattle.laws.proofs.Bools.{by-test}
-use Rattle.laws.proofs.Lists.{from-bounds, map-cong, map-from-at, map-from-out}
 use Rattle.laws.proofs.Positions.{least}
 use Rattle.guard.specs.Types.{Types, Variant, fieldType, fieldsOf, isNumber, variantsOf}
 use Rattle.guard.proofs.FiniteTypes.{infinite}
-use Rattle.tables.specs.Layout.{TypesInRange, pad, typesOf}
+use Rattle.tables.specs.Layout.{TypesInRange, typesOf}
 use Rattle.tables.specs.declared.TypeTable.{TypeTable}
-use Rattle.tables.proofs.Columns.{pad-get}
 use Rattle.tables.proofs.Held.{fields-small, held-arity, held-many, held-sort, held-variants, placeOf}
-use Rattle.datatypes.specs.Facts.{finiteColumn, flagged}
-use Rattle.datatypes.proofs.FiniteLaws.{finite-flagged}
+use Rattle.finite.specs.Finite.{finiteColumn, flagged}
+use Rattle.finite.proofs.FiniteLaws.{finite-flagged}
 use Rattle.growth.proofs.Growth.{chosenField, growingVariant, nextType, stepsToNumber}
 use Rattle.growth.proofs.Orbit.{distance, iterate, iterate-less, period, root}
-use Rattle.growthtables.specs.Entries.{chosenEntry, distanceEntry, fieldedAt, filled, growingEntry, infiniteAt, nextEntry, numberAfter, onTo, periodEntry, rootEntry, sortAt, stepsEntry}
+use Rattle.nexttypes.specs.NextTypes.{chosenEntry, fieldedAt, growingEntry, infiniteAt, nextEntry, sortAt}
+use Rattle.orbits.specs.Orbits.{distanceEntry, numberAfter, onTo, periodEntry, rootEntry, stepsEntry}
+use Rattle.columns.specs.Entries.{filled}
 use Rattle.growthtables.specs.Growth.{chosenAt, growthBy, perType}
 use Rattle.growthtables.specs.declared.Growth.{Growth}
-use Rattle.growthtables.proofs.Loops.{least-same}
-
--- ---- columns
-
-pub filled-at : (n : ℕ) (f : ℕ → ℕ) (i k : ℕ) → k < i → getD (filled n f i) k 0 ≡ f k
-unfolding filled
-filled-at n f i k h = pad-get 0 n k (map f (from i 0)) ∙ map-from-at f i 0 k 0 h ∙ ap f (zero-add k)
-
-pub filled-past : (n : ℕ) (f : ℕ → ℕ) (i k : ℕ) → i ≤ k → getD (filled n f i) k 0 ≡ 0
-unfolding filled
-filled-past n f i k h = pad-get 0 n k (map f (from i 0)) ∙ map-from-out f i 0 k 0 h
-
-pub filled-same : (n : ℕ) (f g : ℕ → ℕ) (i : ℕ) → ((k : ℕ) → k < i → f k ≡ g k) → filled n f i ≡ filled n g i
-unfolding filled
-filled-same n f g i h = ap (pad n) (map-cong f g (from i 0) (λ k m. h k (omega (arith, from-bounds i 0 k m .1))))
-
--- ---- the types of a table
+use Rattle.columns.proofs.Filled.{filled-at, filled-past, filled-same}
+use Rattle.columns.proofs.Searches.{least-same}
 
 module _ (table : TypeTable) where
   abbrev ts : Types

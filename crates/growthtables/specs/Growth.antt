@@ -11,7 +11,7 @@ use Rattle.tables.specs.Layout.{typesOf}
 use Rattle.tables.specs.declared.TypeTable.{TypeTable}
 use Rattle.tables.proofs.Lookups.{offsetOf}
 use Rattle.growth.proofs.Growth.{chosenField, distanceOf, growingVariant, nextType, periodOf, rootOf, stepsToNumber}
-use Rattle.growthtables.specs.Entries.{filled}
+use Rattle.columns.specs.Entries.{filled}
 use Rattle.growthtables.specs.declared.Growth.{Growth}
 
 -- the first infinite field of the variant at place w, or the number of its fields

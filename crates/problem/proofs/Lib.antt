@@ -1,6 +1,5 @@
 pub mod Blocks
 pub mod SlotLaws
-pub mod PlaceLaws
 pub mod ShapeColumn
 pub mod OtherColumns
 pub mod ProblemLaws

@@ -14,12 +14,23 @@ use Rattle.guard.specs.WellFormed.{WellFormed}
 use Rattle.tables.specs.Layout.{flat, rowTable, typeTable}
 use Rattle.tables.proofs.Columns.{pad-get, pad-length}
 use Rattle.reader.specs.Reader.{guardTables}
+use Rattle.problem.specs.declared.Problem.{Problem}
 use Rattle.problem.specs.Problem.{problemOf}
-use Rattle.problem.specs.Columns.{filled, problemBy}
+use Rattle.columns.specs.Entries.{filled}
+use Rattle.problem.specs.Columns.{problemBy}
 use Rattle.problem.proofs.OtherColumns.{constant-is, fieldless-is, full-is, read-is, sort-is}
-use Rattle.problem.proofs.PlaceLaws.{all-columns}
 use Rattle.problem.proofs.ShapeColumn.{shape-is}
 use Rattle.problem.proofs.SlotLaws.{constants-length, fieldless-length, full-length, reads-length, shapes-length, sorts-length}
+
+-- a problem is its columns
+pub all-columns : (q : Problem) (shapes reads sorts full fieldless constants : List ℕ)
+    → shapes ≡ q .shapes → reads ≡ q .reads → sorts ≡ q .sorts → full ≡ q .full → fieldless ≡ q .fieldless → constants ≡ q .constants
+    → _≡_ {A = Problem} (record { shapes = shapes; reads = reads; sorts = sorts; full = full; fieldless = fieldless; constants = constants }) q
+all-columns q shapes reads sorts full fieldless constants = same
+  where
+    same : {a b c d e f : List ℕ} → shapes ≡ a → reads ≡ b → sorts ≡ c → full ≡ d → fieldless ≡ e → constants ≡ f
+        → _≡_ {A = Problem} (record { shapes = shapes; reads = reads; sorts = sorts; full = full; fieldless = fieldless; constants = constants }) (record { shapes = a; reads = b; sorts = c; full = d; fieldless = e; constants = f })
+    same p₁ p₂ p₃ p₄ p₅ p₆ = cc
 
 -- a column filled with the elements of a list is the list
 column-is : (n : ℕ) (f : ℕ → ℕ) (xs : List ℕ) → length xs ≡ n → ((x : ℕ) → x < n → f x ≡ getD xs x 0) → filled n f n ≡ xs

@@ -2,7 +2,7 @@
 -- it looks at in one array. Assumes nothing: definitions.
 use mathlib.Core.List.{List, [], _∷_, _++_, map}
 use mathlib.Core.Option.{Option, none, some}
-use Prim.Native.Nat.{ℕ, suc, _+_, _*_, _-_, _^_}
+use Prim.Native.Nat.{ℕ, suc, _+_, _-_, _^_}
 use lib.ListN.{length, getD}
 use Rattle.laws.specs.Lists.{concatMap, from, sum}
 use Rattle.guard.specs.Closure.{everyVariant}
@@ -12,13 +12,11 @@ use Rattle.guard.specs.Terms.{absentTerm, defaultTerm, fieldTerms, fieldless, f
 use Rattle.guard.specs.Types.{Types, Variant, defaults, fieldsOf, variantsOf}
 use Rattle.tables.specs.Layout.{pad}
 use Rattle.siblings.specs.Siblings.{siblingsIn}
+pub use Rattle.rowshapes.specs.RowShapes.{kindNumber}
+pub use Rattle.readcolumn.specs.Reads.{fieldKey}
 use Rattle.problem.specs.declared.Problem.{Problem}
 
 -- ---- shapes: terms built by a variant, or so built as soon as their label is that variant alone
-
--- one number for a variant of a type; 0 is none
-abbrev pub kindNumber : ℕ → ℕ → ℕ
-kindNumber t v = 1 + 16 * t + v
 
 -- eight places: the term, its kind, the variants that must have gone, how many parts, the parts
 abbrev pub shape : ℕ → ℕ → ℕ → ℕ → List ℕ → List ℕ
@@ -46,10 +44,6 @@ shapesOf g =
     pad 256 (pad 192 (fromRows (rowShape ts) 0 (g .rows)) ++ concatMap (λ t. defaultShape ts t (getD (defaults ts) t none)) (from (length ts) 0))
 
 -- ---- field reads
-
--- one number for a field of a variant of a type; 0 is none
-abbrev pub fieldKey : ℕ → ℕ → ℕ → ℕ
-fieldKey t v p = 1 + 64 * t + 4 * v + p
 
 -- four places: the term read, the field, the variant's bit, and the term that the read equals without the variant
 abbrev pub rowRead : Types → ℕ → Row → List ℕ

@@ -26,7 +26,7 @@ use Rattle.tables.proofs.Lookups.{row-type-anywhere, variants-at}
 use Rattle.typereader.specs.TypeReader.{typesAt}
 use Rattle.typereader.specs.declared.TypesRead.{TypesRead}
 use Rattle.typereader.proofs.TypeReaderLaws.{TypesFound, types-found, types-refused}
-use Rattle.typereader.proofs.TidyTypes.{VariantFits}
+use Rattle.variantreader.proofs.TidyVariants.{VariantFits}
 use Rattle.datatypes.specs.Facts.{refusedAt, typeFacts}
 use Rattle.datatypes.specs.declared.TypeFacts.{TypeFacts}
 use Rattle.rowreader.specs.RowReader.{rowsAt}

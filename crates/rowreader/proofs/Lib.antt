@@ -1,6 +1,4 @@
 pub mod SameRows
 pub mod TidyRows
-pub mod Answers
-pub mod PartLaws
 pub mod RowLaws
 pub mod RowReaderLaws

@@ -16,22 +16,24 @@ use Rattle.guard.specs.Guard.{Row, Row.built, Row.constant, Row.field, Row.vari
 use Rattle.guard.specs.Number.{Parsed, Parsed.refused, andThen}
 use Rattle.guard.specs.Types.{Types}
 use Rattle.guard.proofs.Repeats.{rows-next, rows-stop-kind, rows-stop-row}
-use Rattle.rowreader.specs.ByTypes.{rowBy}
+use Rattle.rowparts.specs.ByTypes.{rowBy}
 use Rattle.tables.specs.Layout.{TypesInRange, pad, padTo, rowKind, rowParts, rowTable, rowValue, rowVariant, typesOf}
 use Rattle.numbers.specs.Reader.{below, belowAt}
-use Rattle.rowreader.specs.RowReader.{Before, asRow, asRows, noRows, rowReadAt, rowsAt, rowsFrom, stored}
-use Rattle.rowreader.proofs.Answers.{foundRow}
+use Rattle.rowparts.specs.RowParts.{Before, asRow}
+use Rattle.rowreader.specs.RowReader.{asRows, noRows, rowsAt, rowsFrom, stored}
+use Rattle.rowkinds.specs.RowKinds.{rowReadAt}
+use Rattle.rowparts.proofs.Answers.{foundRow}
 use Rattle.tables.proofs.Columns.{pad-at, pad-length, pad-set}
 use Rattle.tables.proofs.Lookups.{map-at, triples-length}
 use Rattle.numbers.proofs.NumberLaws.{Found, below-found, below-refused, count-is}
 use Rattle.rowreader.proofs.SameRows.{row-by}
 use Rattle.numbers.proofs.Tidy.{Answer, answer-refused, answered, cursor-drop}
-use Rattle.rowreader.proofs.TidyRows.{RowShape, tidy-row}
+use Rattle.rowkinds.proofs.TidyRow.{RowShape, tidy-row}
 use Rattle.tables.proofs.Held.{fields-few, fields-small, held-many}
 use Rattle.numbers.specs.declared.Number.{Number}
 use Rattle.tables.specs.declared.TypeTable.{TypeTable}
 use Rattle.tables.specs.declared.RowTable.{RowTable}
-use Rattle.rowreader.specs.declared.RowRead.{RowRead}
+use Rattle.rowparts.specs.declared.RowRead.{RowRead}
 use Rattle.rowreader.specs.declared.RowsRead.{RowsRead}
 
 -- ---- the table of one row more

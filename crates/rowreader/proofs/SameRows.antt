@@ -10,7 +10,7 @@ use Rattle.guard.specs.File.{name, parts, rowOf, variantTerm}
 use Rattle.guard.specs.Guard.{Row, Row.built, noRow, typeAt, typeOf}
 use Rattle.guard.specs.Number.{Parsed, Parsed.accepted, Parsed.refused, Parser, _>>=_, _>>_, andThen, ask, return}
 use Rattle.guard.specs.Types.{Types, Variant, fieldsOf, isNumber, variantsOf}
-use Rattle.rowreader.specs.ByTypes.{builtOf, fieldOf, partsBy, rowBy, variantTermBy}
+use Rattle.rowparts.specs.ByTypes.{builtOf, fieldOf, partsBy, rowBy, variantTermBy}
 
 module _ {A B : Type 0} (f g : A → Parser B) (alike : (a : A) (bs : List ℕ) → f a bs ≡ g a bs) where
   then-same : (r : Parsed A) → andThen f r ≡ andThen g r

@@ -1,2 +1,1 @@
-pub mod ByTypes
 pub mod RowReader

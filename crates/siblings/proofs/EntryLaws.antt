@@ -1,18 +1,13 @@
--- Entries of the columns, case by case as the code tells them apart, and columns filled from the front. Assumes nothing.
+-- Entries of the columns, case by case as the code tells them apart. Assumes nothing.
 use mathlib.Core.Path.{_≡_, ap, sym, _∙_}
 use mathlib.Core.Bool.{Bool, cond}
-use mathlib.Core.List.{List, [], _∷_, _++_, map}
+use mathlib.Core.List.{List}
 use Prim.Native.Nat.{ℕ, _+_, _*_, _≤_, _<_}
-use native.Mathlib.Nat.{zero-add}
-use native.Mathlib.Numerals.{add-one}
 use native.Mathlib.Omega.{arith}
 use lib.Dec.{ltb}
-use lib.ListN.{length, getD, set, replicate}
+use lib.ListN.{getD}
 use borrow.Author.Tests.{eq-eqb, ne-eqb, lt-ltb, le-ltb}
-use Rattle.laws.specs.Lists.{from}
-use Rattle.laws.proofs.Lists.{map-from-length, map-from-snoc}
-use Rattle.tables.specs.Layout.{TypesInRange, pad}
-use Rattle.tables.proofs.Columns.{pad-nil, pad-set}
+use Rattle.tables.specs.Layout.{TypesInRange}
 use Rattle.tables.specs.declared.TypeTable.{TypeTable}
 use Rattle.siblings.specs.declared.Siblings.{Siblings}
 use Rattle.siblings.specs.Siblings.{SortsInRange, entry, fieldEntry, fieldTermAt, placeAt, siblingPosition, sortEntry}
@@ -112,24 +107,6 @@ module _ (kinds types variants parts first arities : List ℕ) (i : ℕ) where
           ap (λ (n : ℕ). getD sorts n 0 + 1) e
           ∙ entry-of (getD kinds i 0) (getD arities (placeAt types variants parts first i) 0) (siblingPosition (getD parts (3 * i + 1) 0) k) _ isRead
           (omega (arith, is-arity, is-position))
-
--- ---- columns of n places, filled from the front
-
-module _ (n : ℕ) (f : ℕ → ℕ) where
-  abbrev pub filled : ℕ → List ℕ
-  filled i = pad n (map f (from i 0))
-
-  pub filled-none : replicate n 0 ≡ filled 0
-  filled-none = sym (pad-nil 0 n)
-
-  pub filled-next : (i : ℕ) (column : List ℕ) (x : ℕ) → i < n → column ≡ filled i → x ≡ f i → set column i x ≡ filled (i + 1)
-  filled-next i column x h e q =
-      let l : length (map f (from i 0)) ≡ i = map-from-length f i 0 in
-      ap (λ (c : List ℕ). set c i x) e ∙ ap (set (filled i) i) q ∙ ap (λ (k : ℕ). set (filled i) k (f i)) (sym l) ∙ pad-set 0 n (map f (from i 0)) (f i) (omega arith)
-      ∙ ap (pad n) (ap (λ (k : ℕ). map f (from i 0) ++ (f k ∷ [])) (sym (zero-add i)) ∙ sym (map-from-snoc f i 0) ∙ ap (λ (k : ℕ). map f (from k 0)) (sym (add-one i)))
-
-  pub filled-end : (i m : ℕ) (column : List ℕ) → i ≤ m → m ≤ i → column ≡ filled i → column ≡ filled m
-  filled-end i m column h l e = let q : i ≡ m = omega arith in e ∙ ap filled q
 
 -- ---- the tables' own columns
 

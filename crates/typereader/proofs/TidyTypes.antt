@@ -9,8 +9,8 @@ use lib.ListN.{length, length-append}
 use borrow.Author.Tests.{leb-true}
 use Rattle.laws.specs.All.{All, All.more, All.none}
 use Rattle.laws.proofs.Bools.{and-left, and-right}
-use Rattle.guard.specs.File.{count, name, types, variant}
-use Rattle.guard.specs.Limits.{fieldLimit, totalVariantLimit, variantLimit}
+use Rattle.guard.specs.File.{count, types, variant}
+use Rattle.guard.specs.Limits.{totalVariantLimit, variantLimit}
 use Rattle.guard.specs.Number.{times, unsigned}
 use Rattle.guard.specs.Types.{Types, Variant}
 use Rattle.guard.proofs.Repeats.{room}
@@ -18,15 +18,7 @@ use Rattle.numbers.specs.Reader.{below}
 use Rattle.numbers.proofs.Tidy.{Tidy, tidy-asked, tidy-below, tidy-bind, tidy-count, tidy-return, tidy-times, tidy-unsigned, tidy-weaken}
 use Rattle.tables.specs.Layout.{flat}
 use Rattle.typereader.specs.TypeReader.{oneType, typesPart}
-
-abbrev pub VariantFits : ℕ → Variant → Type 0
-VariantFits many fs = (length fs ≤ fieldLimit) × All (λ f. f < many) fs
-
-pub tidy-variant : (many : ℕ) → Tidy (variant many) (VariantFits many)
-tidy-variant many =
-    tidy-bind (count fieldLimit) _ (λ n. n ≤ fieldLimit) (VariantFits many) (tidy-count fieldLimit)
-    (λ f h. tidy-weaken (times f (name many)) (λ xs. (length xs ≡ f) × All (λ i. i < many) xs) (VariantFits many) (tidy-times f (name many) (λ i. i < many) (tidy-below many 5 (omega arith)))
-    (λ xs p. (omega (arith, p .0, h), p .1)))
+use Rattle.variantreader.proofs.TidyVariants.{VariantFits, tidy-variant}
 
 -- so many variants more fit after `total`
 abbrev pub TypeFits : ℕ → ℕ → List Variant → Type 0

@@ -14,7 +14,8 @@ use Rattle.guard.specs.Types.{Types, variantsOf}
 use Rattle.tables.specs.Layout.{TypesInRange, flat, typeTable, typesOf}
 use Rattle.typereader.specs.TypeReader.{asTypes, noTypes, typesAt, typesPart}
 use Rattle.numbers.proofs.Tidy.{Answer, answer-refused, answered}
-use Rattle.typereader.proofs.TidyTypes.{TypesFit, VariantFits, tidy-part}
+use Rattle.typereader.proofs.TidyTypes.{TypesFit, tidy-part}
+use Rattle.variantreader.proofs.TidyVariants.{VariantFits}
 use Rattle.tables.proofs.TypesBack.{table-in-range, types-back}
 use Rattle.typereader.specs.declared.TypesRead.{TypesRead}
 

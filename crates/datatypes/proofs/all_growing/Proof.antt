@@ -6,8 +6,9 @@ use native.Mathlib.Omega.{arith}
 use borrow.Author.Needs.{needs}
 use Rattle.laws.specs.Lists.{all, from}
 use Rattle.guard.specs.Types.{variantsOf}
-use Rattle.datatypes.specs.Facts.{allGrowing, growing, typesIn}
-use Rattle.datatypes.proofs.Walks.{said-no, said-yes, all-next, all-stop, all-end}
+use Rattle.datatypes.specs.Facts.{allGrowing, growing}
+use Rattle.finite.specs.TypeColumns.{typesIn}
+use Rattle.finite.proofs.Walks.{said-no, said-yes, all-next, all-stop, all-end}
 use Rattle.datatypes.proofs.QuestionLaws.{all-growing-start}
 use Rattle.datatypes.proofs.all_growing.Statement.{statement}
 use Rattle.datatypes.proofs.all_growing.Tie as tie

@@ -7,9 +7,10 @@ use borrow.Author.Needs.{needs}
 use mathlib.Core.Bool.{Bool}
 use Rattle.laws.specs.Lists.{all, from}
 use Rattle.guard.specs.Types.{variantsOf}
-use Rattle.datatypes.specs.Facts.{fieldsAt, growing, typesIn}
-use Rattle.datatypes.proofs.Walks.{said-no, said-yes, all-next, all-stop, all-end}
-use Rattle.datatypes.proofs.FlatTypes.{fields-in-range, variants-all}
+use Rattle.finite.specs.TypeColumns.{fieldsAt, typesIn}
+use Rattle.datatypes.specs.Facts.{growing}
+use Rattle.finite.proofs.Walks.{said-no, said-yes, all-next, all-stop, all-end}
+use Rattle.finite.proofs.FlatTypes.{fields-in-range, variants-all}
 use Rattle.datatypes.proofs.type_growing.Statement.{statement}
 use Rattle.datatypes.proofs.type_growing.Tie as tie
 

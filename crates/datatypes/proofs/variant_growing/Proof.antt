@@ -6,8 +6,9 @@ use native.Mathlib.Omega.{arith}
 use lib.ListN.{getD}
 use borrow.Author.Needs.{needs}
 use Rattle.laws.specs.Lists.{any, from}
-use Rattle.datatypes.specs.Facts.{fieldsAt, growing}
-use Rattle.datatypes.proofs.Walks.{any-next, any-stop, any-end}
+use Rattle.finite.specs.TypeColumns.{fieldsAt}
+use Rattle.datatypes.specs.Facts.{growing}
+use Rattle.finite.proofs.Walks.{any-next, any-stop, any-end}
 use Rattle.datatypes.proofs.QuestionLaws.{infiniteAt, growing-none, growing-start, infinite-yes, infinite-no}
 use Rattle.datatypes.proofs.variant_growing.Statement.{statement}
 use Rattle.datatypes.proofs.variant_growing.Tie as tie

@@ -3,7 +3,7 @@ use borrow.Author.Needs.{needs}
 use Rattle.freerows.proofs.variant_planned.Statement.{statement}
 use Rattle.freerows.proofs.variant_planned.Tie as tie
 use Rattle.freerows.proofs.FreeLaws.{circled-free, class-starts, ended-free, last-low, tops-typed, type-known, variant-fits, variant-wide}
-use Rattle.freerows.proofs.ChainLaws.{start-less, steps-most, steps-read}
+use Rattle.chains.proofs.ChainLaws.{start-less, steps-most, steps-read}
 use Rattle.growthrows.specs.Forms.{typesIn}
 use Rattle.growthrows.proofs.FormLaws.{type-small}
 use Rattle.leaf.specs.Leaf.{openState}

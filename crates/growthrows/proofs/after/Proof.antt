@@ -5,8 +5,8 @@ use native.Mathlib.Omega.{arith}
 use lib.ListN.{getD}
 use borrow.Author.Needs.{needs}
 use Rattle.growth.proofs.Orbit.{iterate}
-use Rattle.growthtables.specs.Entries.{onTo}
-use Rattle.growthtables.proofs.EntryLaws.{at-next}
+use Rattle.orbits.specs.Orbits.{onTo}
+use Rattle.orbits.proofs.OrbitLaws.{at-next}
 use Rattle.growthrows.proofs.FormLaws.{after-read, next-small, type-small}
 use Rattle.growthrows.proofs.after.Statement.{statement}
 use Rattle.growthrows.proofs.after.Tie as tie

@@ -1,17 +1,17 @@
 -- `problem_of` meets its contract. Assumes nothing.
 use Rattle.problem.specs.Columns.{problemBy}
-use Rattle.problem.proofs.PlaceLaws.{all-columns}
+use Rattle.problem.proofs.ProblemLaws.{all-columns}
 use borrow.Author.Needs.{needs}
 use Rattle.problem.proofs.problem_of.Statement.{statement}
 use Rattle.problem.proofs.problem_of.Tie as tie
 use Rattle.problem.proofs.problem_of.Reads as reads
 use Rattle.problem.proofs.problem_of.Lts as lts
-use Rattle.problem.proofs.constant_entries.Reads as constant-entries-reads
-use Rattle.problem.proofs.fieldless_entries.Reads as fieldless-entries-reads
-use Rattle.problem.proofs.full_entries.Reads as full-entries-reads
-use Rattle.problem.proofs.read_entries.Reads as read-entries-reads
-use Rattle.problem.proofs.shape_entries.Reads as shape-entries-reads
-use Rattle.problem.proofs.sort_entries.Reads as sort-entries-reads
+use Rattle.readcolumn.proofs.constant_entries.Reads as constant-entries-reads
+use Rattle.sortcolumn.proofs.fieldless_entries.Reads as fieldless-entries-reads
+use Rattle.sortcolumn.proofs.full_entries.Reads as full-entries-reads
+use Rattle.readcolumn.proofs.read_entries.Reads as read-entries-reads
+use Rattle.shapecolumn.proofs.shape_entries.Reads as shape-entries-reads
+use Rattle.sortcolumn.proofs.sort_entries.Reads as sort-entries-reads
 
 constant-entries-requires : tie.Need-constant-entries-requires
 constant-entries-requires c κs = search needs

@@ -1,6 +1,6 @@
 -- `sort_entries` meets its contract. Invariant: the places so far are those of the column. Assumes nothing.
 use Rattle.siblings.specs.Siblings.{sortEntries, sortEntry}
-use Rattle.siblings.proofs.EntryLaws.{filled-end, filled-next, filled-none}
+use Rattle.columns.proofs.Filled.{filled-end, filled-next, filled-none}
 use Prim.Native.Nat.{_*_, _-_, _/_, _%_, _≤_}
 use mathlib.Core.Path.{_≡_}
 use native.Mathlib.Omega.{arith}

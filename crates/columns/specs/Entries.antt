@@ -1,0 +1,28 @@
+-- Entries of columns: masks of variants, numbers of types, and a column filled from the front. Assumes nothing: definitions.
+use mathlib.Core.Bool.{Bool, cond}
+use mathlib.Core.List.{List, map}
+use Prim.Native.Nat.{ℕ, _+_, _-_, _^_}
+use lib.Dec.{ltb}
+use Rattle.laws.specs.Lists.{from}
+use Rattle.guard.specs.Closure.{everyVariant}
+use Rattle.guard.specs.Limits.{variantLimit}
+use Rattle.tables.specs.Layout.{pad}
+
+-- n places, the first i of them filled
+abbrev pub filled : ℕ → (ℕ → ℕ) → ℕ → List ℕ
+filled n f i = pad n (map f (from i 0))
+
+-- the mask of one variant
+unfoldable pub bitOf : ℕ → ℕ
+bitOf v = cond (ltb v variantLimit) (2 ^ v) 0
+
+-- the mask of the first n variants
+unfoldable pub onesOf : ℕ → ℕ
+onesOf n = cond (ltb n variantLimit) (2 ^ n - 1) everyVariant
+
+-- the number of a type, plus one
+unfoldable pub plusOne : ℕ → ℕ
+plusOne t = cond (ltb t 6) (t + 1) 0
+
+unfoldable pub plusOneIf : Bool → ℕ → ℕ
+plusOneIf test t = cond test (plusOne t) 0

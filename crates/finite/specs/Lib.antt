@@ -1,0 +1,2 @@
+pub mod TypeColumns
+pub mod Finite

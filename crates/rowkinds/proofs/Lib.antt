@@ -1,0 +1,2 @@
+pub mod TidyRow
+pub mod Answers

@@ -1,0 +1,3 @@
+pub mod TidyParts
+pub mod PartLaws
+pub mod Answers

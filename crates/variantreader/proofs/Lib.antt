@@ -1,0 +1,4 @@
+pub mod TidyVariants
+pub mod Midway
+pub mod Stored
+pub mod Readers
