@@ -14,9 +14,9 @@ use Rattle.guard.specs.Types.{fieldsOf}
 use Rattle.guard.proofs.Accepted.{accepted-well-formed}
 use Rattle.guard.proofs.Claims.{base-supported}
 use Rattle.tables.specs.Layout.{flat, rowTable, typeTable}
+use Rattle.tables.proofs.AcceptedTotal.{accepted-total}
 use Rattle.reader.specs.Reader.{asTables, guardTables, noTables, tablesAt}
 use Rattle.reader.specs.declared.Tables.{Tables}
-use Rattle.problem.proofs.AcceptedProblem.{accepted-total}
 use Rattle.answertext.specs.Text.{fieldCount, rowLine, shownText, termLine, termsIn, typesIn}
 use Rattle.answertext.specs.Arity.{AritiesFit, arityIn}
 use Rattle.answertext.proofs.Arities.{field-count, table-fits}

@@ -10,6 +10,7 @@ use Rattle.guard.specs.Limits.{Limits, Supported}
 use Rattle.guard.specs.Number.{Parsed, Parsed.accepted, Parsed.refused, andThen}
 use Rattle.guard.specs.Types.{allDefaults, infiniteFields}
 use Rattle.guard.proofs.Accepted.{accepted-well-formed}
+use Rattle.tables.proofs.AcceptedTotal.{accepted-total}
 use Rattle.numbers.proofs.Tidy.{Any, Tidy, tidy-asked, tidy-bind, tidy-return, tidy-same}
 use Rattle.typereader.specs.TypeReader.{typesPart}
 use Rattle.typereader.proofs.TidyTypes.{tidy-part}
@@ -17,7 +18,6 @@ use Rattle.rowreader.specs.RowReader.{countedRows}
 use Rattle.rowreader.proofs.TidyRows.{tidy-counted}
 use Rattle.literalreader.specs.LiteralReader.{literalsBy}
 use Rattle.literalreader.proofs.TidyLiterals.{tidy-literals}
-use Rattle.problem.proofs.AcceptedProblem.{accepted-total}
 use Rattle.reader.specs.Reader.{asTables, guardTables, noTables, tablesAt}
 use Rattle.reader.specs.declared.Tables.{Tables}
 use Rattle.reader.proofs.FileParts.{afterRows, afterTypes, file-parts}

@@ -2,3 +2,4 @@ pub mod Columns
 pub mod Held
 pub mod Lookups
 pub mod TypesBack
+pub mod AcceptedTotal
