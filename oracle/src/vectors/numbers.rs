@@ -62,7 +62,8 @@ fn forms(set: &mut Set) {
     }
     let (_, before, _) = places[0];
     for (name, byte) in [("low", 0x80), ("high", 0xff)] {
-        for length in 0..5 {
+        // A fifth byte with bit 80 ends the number, so the last of these is cut after it.
+        for length in 0..6 {
             let file = [before, &vec![byte; length]].concat();
             set.add(format!("number-cut-{name}-{length}"), USUAL_BUDGET, &file);
         }
