@@ -44,9 +44,10 @@ pub fn growth_of(table: TypeTable) -> Growth
         &growing,
     );
     let steps = orbits::steps_entries(many, &variants, &next);
-    let root = orbits::root_entries(many, &next);
-    let distance = orbits::distance_entries(many, &next);
-    let period = orbits::period_entries(many, &next);
+    let cycles = orbits::cycle_entries(many, &next);
+    let root = cycles.root;
+    let distance = cycles.distance;
+    let period = cycles.period;
     Growth {
         chosen: chosen,
         growing: growing,

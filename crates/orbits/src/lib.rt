@@ -72,19 +72,6 @@ fn root_entry(next: &[u8], many: u8, t: u8) -> u8
     root
 }
 
-pub fn root_entries(many: u8, next: &[u8; 6]) -> [u8; 6]
-    requires { ⌜ many ≤ 6 ⌝ }
-    ensures { λ r. ⌜ r ≡ filled 6 (rootEntry (now (next .entry)) many) many ⌝ }
-{
-    let mut column = [0u8; 6];
-    let mut t: u8 = 0;
-    while t < many {
-        column[t as usize] = root_entry(next, many, t);
-        t += 1;
-    }
-    column
-}
-
 fn is_met_after(next: &[u8], t: u8, u: u8, k: u8) -> bool
     ensures { λ r. ⌜ r ≡ metAfter (now (next .entry)) t u k ⌝ }
 {
@@ -105,19 +92,6 @@ fn distance_entry(next: &[u8], many: u8, t: u8) -> u8
     many
 }
 
-pub fn distance_entries(many: u8, next: &[u8; 6]) -> [u8; 6]
-    requires { ⌜ many ≤ 6 ⌝ }
-    ensures { λ r. ⌜ r ≡ filled 6 (distanceEntry (now (next .entry)) many) many ⌝ }
-{
-    let mut column = [0u8; 6];
-    let mut t: u8 = 0;
-    while t < many {
-        column[t as usize] = distance_entry(next, many, t);
-        t += 1;
-    }
-    column
-}
-
 fn period_entry(next: &[u8], many: u8, t: u8) -> u8
     ensures { λ r. ⌜ r ≡ periodEntry (now (next .entry)) many t ⌝ }
 {
@@ -131,15 +105,34 @@ fn period_entry(next: &[u8], many: u8, t: u8) -> u8
     k
 }
 
-pub fn period_entries(many: u8, next: &[u8; 6]) -> [u8; 6]
+// The cycle that growth from each type ends in.
+pub struct Cycles {
+    // its lowest type, and the steps to it
+    pub root: [u8; 6],
+    pub distance: [u8; 6],
+    // steps of growth back to the type itself, where it is a root
+    pub period: [u8; 6],
+}
+
+pub fn cycle_entries(many: u8, next: &[u8; 6]) -> Cycles
     requires { ⌜ many ≤ 6 ⌝ }
-    ensures { λ r. ⌜ r ≡ filled 6 (periodEntry (now (next .entry)) many) many ⌝ }
+    ensures { λ r. ⌜ r .root ≡ filled 6 (rootEntry (now (next .entry)) many) many ⌝ }
+    ensures { λ r. ⌜ r .distance ≡ filled 6 (distanceEntry (now (next .entry)) many) many ⌝ }
+    ensures { λ r. ⌜ r .period ≡ filled 6 (periodEntry (now (next .entry)) many) many ⌝ }
 {
-    let mut column = [0u8; 6];
+    let mut root = [0u8; 6];
+    let mut distance = [0u8; 6];
+    let mut period = [0u8; 6];
     let mut t: u8 = 0;
     while t < many {
-        column[t as usize] = period_entry(next, many, t);
+        root[t as usize] = root_entry(next, many, t);
+        distance[t as usize] = distance_entry(next, many, t);
+        period[t as usize] = period_entry(next, many, t);
         t += 1;
     }
-    column
+    Cycles {
+        root,
+        distance,
+        period,
+    }
 }

@@ -10,35 +10,27 @@ use Rattle.growthtables.proofs.growth_of.Tie as tie
 steps-entries-requires : tie.Need-steps-entries-requires
 steps-entries-requires c κs = omega (arith, c .before .before .before .before .before .before .before .before .before .before .before .before .before .before .before .before .before .before .before .before .before .before .before .before .before .before .before .pre .many)
 
-root-entries-requires : tie.Need-root-entries-requires
-root-entries-requires c κs = omega (arith, c .before .before .before .before .before .before .before .before .before .before .before .before .before .before .before .before .before .before .before .before .before .before .before .before .before .before .before .before .before .pre .many)
-
-distance-entries-requires : tie.Need-distance-entries-requires
-distance-entries-requires c κs = omega (arith, c .before .before .before .before .before .before .before .before .before .before .before .before .before .before .before .before .before .before .before .before .before .before .before .before .before .before .before .before .before .before .before .pre .many)
-
-period-entries-requires : tie.Need-period-entries-requires
-period-entries-requires c κs = omega (arith, c .before .before .before .before .before .before .before .before .before .before .before .before .before .before .before .before .before .before .before .before .before .before .before .before .before .before .before .before .before .before .before .before .before .pre .many)
+cycle-entries-requires : tie.Need-cycle-entries-requires
+cycle-entries-requires c κs = omega (arith, c .before .before .before .before .before .before .before .before .before .before .before .before .before .before .before .before .before .before .before .before .before .before .before .before .before .before .before .before .before .pre .many)
 
 returns : tie.Need-returns
 returns c =
-    let s = c .before .before .before .before .before .before .before .before .before .before .before .before .before .before .before .before .before .before .before .before .before .before .before .before .before .before .before .before .before .before .before .before .before .before in
+    let s = c .before .before .before .before .before .before .before .before .before .before .before .before .before .before .before .before .before .before .before .before .before .before .before .before .before .before .before .before .before .before .before .before .before in
     let t = s .args .table in
-    let finite = c .before .before .before .before .before .before .before .before .before .before .before .before .before .before .before .before .before .before .before .before .before .before .before .before .finite-types in
-    let chosen = c .before .before .before .before .before .before .before .before .before .before .before .before .before .before .before .before .before .before .before .before .chosen-entries in
-    let growing = c .before .before .before .before .before .before .before .before .before .before .before .before .before .before .before .before .growing-entries in
-    let next = c .before .before .before .before .before .before .before .before .before .next-entries in
-    let steps = c .before .before .before .before .before .before .steps-entries in
-    let root = c .before .before .before .before .root-entries in
-    let distance = c .before .before .distance-entries in
-    let period = c .period-entries in
+    let finite = c .before .before .before .before .before .before .before .before .before .before .before .before .before .before .before .before .before .before .before .before .before .before .before .finite-types in
+    let chosen = c .before .before .before .before .before .before .before .before .before .before .before .before .before .before .before .before .before .before .before .chosen-entries in
+    let growing = c .before .before .before .before .before .before .before .before .before .before .before .before .before .before .before .growing-entries in
+    let next = c .before .before .before .before .before .before .before .before .next-entries in
+    let steps = c .before .before .before .before .before .steps-entries in
+    let cycles = c .before .before .before .cycle-entries in
     let isChosen : chosen .result ≡ growthBy t .chosen = chosen-column t (s .pre) (finite .result) (chosen .result) (finite .ensures) (chosen .ensures) in
     let isGrowing : growing .result ≡ growthBy t .growing = growing-column t (s .pre) (growing .result) (growing .ensures) in
     let isNext : next .result ≡ growthBy t .next = next-column t (s .pre) (chosen .result) (growing .result) (next .result) isChosen isGrowing (next .ensures) in
-    all-columns (growthBy t) (chosen .result) (growing .result) (next .result) (steps .result) (root .result) (distance .result) (period .result) isChosen isGrowing isNext
+    all-columns (growthBy t) (chosen .result) (growing .result) (next .result) (steps .result) (cycles .result .root) (cycles .result .distance) (cycles .result .period) isChosen isGrowing isNext
     (steps-column t (s .pre) (next .result) isNext (steps .result) (steps .ensures))
-    (root-column t (s .pre) (next .result) isNext (root .result) (root .ensures))
-    (distance-column t (s .pre) (next .result) isNext (distance .result) (distance .ensures))
-    (period-column t (s .pre) (next .result) isNext (period .result) (period .ensures))
+    (root-column t (s .pre) (next .result) isNext (cycles .result .root) (cycles .ensures .0))
+    (distance-column t (s .pre) (next .result) isNext (cycles .result .distance) (cycles .ensures .1 .0))
+    (period-column t (s .pre) (next .result) isNext (cycles .result .period) (cycles .ensures .1 .1))
 
 pub growth-of-spec : {M : Type 1} → statement M
 growth-of-spec =
@@ -50,7 +42,5 @@ growth-of-spec =
     (λ c κs. search needs)
     (λ c κs. search needs)
     steps-entries-requires
-    root-entries-requires
-    distance-entries-requires
-    period-entries-requires
+    cycle-entries-requires
     returns)
