@@ -14,16 +14,11 @@ use Rattle.guard.specs.Message.{Message}
 use Rattle.guard.specs.Shown.{decode, natural, partCount, partsFit, rowFits, rowNumbers}
 use Rattle.guard.specs.Types.{Types, Variant}
 use Rattle.rowstore.specs.Store.{Grown, Stored, messageAt}
+use Rattle.rowstore.proofs.RowLaws.{part-low}
 use Rattle.rowstore.proofs.StoreLaws.{grown-itself, grown-message, grown-twice, hasVariant, nothing-stored, part-fits, tagFields}
 use Rattle.growthrows.specs.Drawing.{Drew, Room, Store, Under, Under.here, Under.part}
 
 -- ---- parts lie lower
-
-part-low : (ms : List Message) (i : ℕ) (fs : Variant) (xs : List ℤ) (q : ℕ) → q < length fs → partsFit ms i fs xs ≡ true → natural (getD xs q (pos 0)) < i
-part-low ms i [] xs q h p = absurd (omega arith)
-part-low ms i (f ∷ fs) [] q h p = absurd (false≢true p)
-part-low ms i (f ∷ fs) (x ∷ xs) zero h p = part-fits ms i f fs x xs p .1
-part-low ms i (f ∷ fs) (x ∷ xs) (suc q) h p = part-low ms i fs xs q (omega arith) (part-fits ms i f fs x xs p .3)
 
 part-below : (ts : Types) (ms : List Message) (i : ℕ) (xs : List ℤ) (p : ℕ) → rowFits ts ms i xs ≡ true → p < partCount ts xs → natural (getD xs (suc p) (pos 0)) < i
 part-below ts ms i [] p f h = absurd (omega arith)

@@ -8,7 +8,7 @@ use lib.ListN.{length, getD}
 use borrow.Author.Tests.{eqb-true, eqb-false}
 use Rattle.laws.specs.Lists.{from}
 use Rattle.laws.proofs.Bools.{by-test}
-use Rattle.laws.proofs.Lists.{map-from-suc, map-length}
+use Rattle.laws.proofs.Lists.{map-length}
 use Rattle.guard.specs.Message.{Message, noMessage}
 use Rattle.guard.specs.Shown.{messageType}
 use Rattle.guard.specs.Types.{Types, Variant, defaultOf}
@@ -17,11 +17,6 @@ use Rattle.rowstore.proofs.RowLaws.{belongs-type}
 use Rattle.growth.proofs.Grow.{fill}
 use Rattle.growth.proofs.Growth.{TypesAccepted, defaultOf-belongs}
 use Rattle.growthrows.specs.Drawing.{defaultSizes}
-
--- a list by its positions
-pub by-positions : (xs : List Message) (d : Message) → map (λ q. getD xs q d) (from (length xs) 0) ≡ xs
-by-positions [] d = refl
-by-positions (x ∷ xs) d = ap (λ (l : List Message). x ∷ l) (map-from-suc (λ q. getD (x ∷ xs) q d) (length xs) 0 ∙ by-positions xs d)
 
 module _ (def : ℕ → Message) where
   pub fill-length : (fs : List ℕ) (c : ℕ) (m : Message) → length (fill def fs c m) ≡ length fs

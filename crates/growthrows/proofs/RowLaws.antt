@@ -1,7 +1,7 @@
 -- One row more: a number, or a variant over the rows of its parts. What is drawn is the message, and the parts lie under
 -- its row. Assumes nothing.
 use mathlib.Core.Path.{_≡_, refl, ap, ap₂, sym, _∙_, subst}
-use mathlib.Core.List.{List, [], _∷_, map}
+use mathlib.Core.List.{List, [], _∷_, map, map-id}
 use Prim.Native.Nat.{ℕ, zero, suc, _+_, _*_, _≤_, _<_}
 use native.Mathlib.Omega.{arith}
 use lib.Dec.{ltb}
@@ -13,7 +13,7 @@ use mir.Facts.{toZ-ofZ, toZ-pos}
 use borrow.Author.Tests.{ltb-true, ltb-false, lt-ltb}
 use Rattle.laws.specs.Lists.{from}
 use Rattle.laws.proofs.Bools.{by-test}
-use Rattle.laws.proofs.Lists.{map-length}
+use Rattle.laws.proofs.Lists.{by-positions, map-length}
 use Rattle.guard.specs.Message.{Message, Message.made, Message.number, noMessage, toParts}
 use Rattle.guard.specs.Shown.{decode, decodeRow, isBelow, messageType, natural, partCount, rowNumbers}
 use Rattle.guard.specs.Types.{Types, fieldsOf, variantsOf}
@@ -23,7 +23,7 @@ use Rattle.rowstore.proofs.RowLaws.{made-fits, made-shown, number-fits, start-a
 use Rattle.rowstore.proofs.StoreLaws.{grown-message, grown-twice, row-stored, tagFields}
 use Rattle.growthrows.specs.Drawing.{Drew, LowRows, NumberDrawn, Parted, Store, Under, Under.here, Under.part, partsOver}
 use Rattle.growthrows.proofs.DrawnLaws.{under-kept, under-trans}
-use Rattle.growthrows.proofs.FillLaws.{by-positions, fill-length}
+use Rattle.growthrows.proofs.FillLaws.{fill-length}
 
 -- the rows of defaults stay
 pub store-grown : (ts : Types) (rows : List ℤ) (many : ℕ) (drawn : List ℕ) (rows′ : List ℤ) (many′ : ℕ) → Store ts rows many drawn → Stored ts rows′ many′ → Grown rows many rows′ many′ → Store ts rows′ many′ drawn
@@ -127,7 +127,7 @@ module _ (ts : Types) (t v c row : ℕ) (rows : List ℤ) (many : ℕ) (drawn : 
     last : Drew ts rows′ many′ drawn′ 1 (made t v (toParts parts)) rows″ many″ drawn′ r
     last =
         let listed : map (λ q. getD parts q noMessage) (from (length (fieldsOf ts t v)) 0) ≡ parts =
-        ap (λ (n : ℕ). map (λ q. getD parts q noMessage) (from n 0)) (sym (fill-length _ (fieldsOf ts t v) c _)) ∙ by-positions parts noMessage in
+        ap (λ (n : ℕ). map (λ q. getD parts q noMessage) (from n 0)) (sym (fill-length _ (fieldsOf ts t v) c _)) ∙ by-positions (λ (m : Message). m) parts noMessage ∙ map-id parts in
         subst (λ (l : List Message). Drew ts rows′ many′ drawn′ 1 (made t v (toParts l)) rows″ many″ drawn′ r) listed
         (drew-over ts t v small inside rows′ many′ drawn′ (parted .store) ps (parted .three) (λ q. getD parts q noMessage) rows-of-parts few long start none r rows″ many″ found with-it now)
 

@@ -237,6 +237,11 @@ module _ {A : Type 0} where
   map-from-length f zero a = refl
   map-from-length f (suc n) a = ap suc (map-from-length f n (suc a))
 
+-- a list by its positions
+pub by-positions : {A B : Type 0} (f : A → B) (xs : List A) (d : A) → map (λ q. f (getD xs q d)) (from (length xs) 0) ≡ map f xs
+by-positions f [] d = refl
+by-positions {A} {B} f (x ∷ xs) d = ap (λ (l : List B). f x ∷ l) (map-from-suc (λ q. f (getD (x ∷ xs) q d)) (length xs) 0 ∙ by-positions f xs d)
+
 pub map-from-snoc : {A : Type 0} (f : ℕ → A) (n a : ℕ) → map f (from (suc n) a) ≡ map f (from n a) ++ (f (a + n) ∷ [])
 map-from-snoc f zero a = let e : a ≡ a + 0 = omega arith in ap (λ (k : ℕ). f k ∷ []) e
 map-from-snoc f (suc n) a =

@@ -10,7 +10,7 @@ use lib.IntN.{ℤ}
 use lib.ListN.{length, getD}
 use Rattle.laws.specs.All.{All}
 use Rattle.laws.specs.Lists.{from}
-use Rattle.laws.proofs.Lists.{all-getD, all-weaken, from-bounds, map-cong, map-from-suc, map-map}
+use Rattle.laws.proofs.Lists.{all-getD, all-weaken, by-positions, from-bounds, map-cong, map-map}
 use Rattle.guard.specs.Closure.{LacksAt, State, buildsAt, classOf, closureOf, labelOf}
 use Rattle.guard.specs.Guard.{Guard, Literal}
 use Rattle.guard.specs.Limits.{Limits, Supported, totalVariantLimit}
@@ -41,11 +41,6 @@ use Rattle.kinds.proofs.KindLaws.{ConstantClass, ShapeClass, SingleClass, found
 use Rattle.needed.proofs.NeededLaws.{Need, need-parts}
 use Rattle.plans.specs.Plans.{OpenState, isFree, planFor, typeFor}
 use Rattle.leaf.specs.Picture.{ConstantIs, Pictured, ShapeIs, SingleIs, Wanted, partClass}
-
--- elements by their positions
-by-position : {A : Type 0} (f : ℕ → A) (ps : List ℕ) → map (λ q. f (getD ps q 0)) (from (length ps) 0) ≡ map f ps
-by-position f [] = refl
-by-position {A} f (p ∷ ps) = ap (λ (l : List A). f p ∷ l) (map-from-suc (λ q. f (getD (p ∷ ps) q 0)) (length ps) 0 ∙ by-position f ps)
 
 module _ (limits : Limits) (sup : Supported limits) (g : Guard) (ok : WellFormed limits g) (total : length (flat (g .types)) ≤ totalVariantLimit)
     (ls : List Literal) (nd : NodeOf g ls) (o : OpenNode (tableOf g) ls) (s : State) (agree : Agrees s (closureOf (tableOf g) ls)) (small : Small s)
@@ -164,7 +159,7 @@ module _ (limits : Limits) (sup : Supported limits) (g : Guard) (ok : WellFormed
             map-cong (λ p. val (partClass leafState val k p)) (λ p. val (classOf S (getD (b .parts) p 0))) (from (manyAt (shapesOf g) k) 0)
             (λ p m. ap val (part-class p (omega (arith, from-bounds (manyAt (shapesOf g) k) 0 p m .1))))
             ∙ ap (λ (n : ℕ). map (λ p. val (classOf S (getD (b .parts) p 0))) (from n 0)) (shape .slot .many)
-            ∙ by-position (λ q. val (classOf S q)) (b .parts) ∙ sym (map-map val (classOf S) (b .parts))
+            ∙ by-positions (λ q. val (classOf S q)) (b .parts) 0 ∙ sym (map-map val (classOf S) (b .parts))
 
     -- ---- constants, one fieldless variant, plans
 

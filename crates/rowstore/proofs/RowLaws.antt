@@ -11,7 +11,7 @@ use lib.ListN.{length, getD, replicate, length-append, List·getD-eq-default}
 use borrow.Author.Tests.{lt-ltb}
 use Rattle.laws.specs.Lists.{all, from}
 use Rattle.laws.proofs.Bools.{and-both, and-right}
-use Rattle.laws.proofs.Lists.{map-from-suc, map-length}
+use Rattle.laws.proofs.Lists.{by-positions, map-from-suc, map-length}
 use Rattle.guard.specs.Limits.{fieldLimit}
 use Rattle.guard.specs.Meaning.{Belongs}
 use Rattle.guard.specs.Message.{Message, Message.number, Message.made, noMessage, toParts}
@@ -107,10 +107,6 @@ module _ (ms : List Message) (n : ℕ) (fs : Variant) (ps : List ℕ) where
         unused = λ q m. is q ∙ ap pos (List·getD-eq-default ps 0 {n = q} (omega arith));
       }
 
-part-list : (ms : List Message) (ps : List ℕ) → map (λ q. getD ms (getD ps q 0) noMessage) (from (length ps) 0) ≡ map (λ p. getD ms p noMessage) ps
-part-list ms [] = refl
-part-list ms (p ∷ ps) = ap (λ (l : List Message). getD ms p noMessage ∷ l) (map-from-suc (λ q. getD ms (getD (p ∷ ps) q 0) noMessage) (length ps) 0 ∙ part-list ms ps)
-
 module _ (ms : List Message) (n : ℕ) (ts : Types) (t v : ℕ) (small : v < 16) (ps : List ℕ) (many : length ps ≡ length (fieldsOf ts t v))
     (parts : (q : ℕ) → q < length (fieldsOf ts t v) → (getD ps q 0 < n) × (messageType (getD ms (getD ps q 0) noMessage) ≡ getD (fieldsOf ts t v) q 0)) where
   pub over-fits : v < length (variantsOf ts t) → rowFits ts ms n (madeRow t v (partNumbers ps)) ≡ true
@@ -119,11 +115,11 @@ module _ (ms : List Message) (n : ℕ) (ts : Types) (t v : ℕ) (small : v < 16)
   pub over-shown : decodeRow ts ms (madeRow t v (partNumbers ps)) ≡ made t v (toParts (map (λ p. getD ms p noMessage) ps))
   over-shown =
       made-shown ms n ts t v small (partNumbers ps) (λ q. getD ms (getD ps q 0) noMessage) (part-rows ms n (fieldsOf ts t v) ps many parts)
-      ∙ ap (λ (k : ℕ). made t v (toParts (map (λ q. getD ms (getD ps q 0) noMessage) (from k 0)))) (sym many) ∙ ap (λ (l : List Message). made t v (toParts l)) (part-list ms ps)
+      ∙ ap (λ (k : ℕ). made t v (toParts (map (λ q. getD ms (getD ps q 0) noMessage) (from k 0)))) (sym many) ∙ ap (λ (l : List Message). made t v (toParts l)) (by-positions (λ p. getD ms p noMessage) ps 0)
 
 -- ---- where a search may start
 
-part-low : (ms : List Message) (i : ℕ) (fs : Variant) (xs : List ℤ) (q : ℕ) → q < length fs → partsFit ms i fs xs ≡ true → natural (getD xs q (pos 0)) < i
+pub part-low : (ms : List Message) (i : ℕ) (fs : Variant) (xs : List ℤ) (q : ℕ) → q < length fs → partsFit ms i fs xs ≡ true → natural (getD xs q (pos 0)) < i
 part-low ms i [] xs q h p = absurd (omega arith)
 part-low ms i (f ∷ fs) [] q h p = absurd (false≢true p)
 part-low ms i (f ∷ fs) (x ∷ xs) zero h p = part-fits ms i f fs x xs p .1
