@@ -67,104 +67,104 @@ made-drew ts rows many drawn store few long t v ps f parts r rows′ many′ =
 -- ---- shapes
 
 -- the rows of the three places for parts
-abbrev pub partList : Leaf → List ℕ → ℕ → List ℕ
-partList leaf at k = partRow leaf at k 0 ∷ partRow leaf at k 1 ∷ partRow leaf at k 2 ∷ []
+abbrev pub partList : List ℕ → List ℕ → List ℕ → ℕ → List ℕ
+partList shapes classes at k = partRow shapes classes at k 0 ∷ partRow shapes classes at k 1 ∷ partRow shapes classes at k 2 ∷ []
 
-module _ (leaf : Leaf) (at : List ℕ) (k : ℕ) where
-  pub three-parts : {a b c : ℕ} → a ≡ partRow leaf at k 0 → b ≡ partRow leaf at k 1 → c ≡ partRow leaf at k 2 → a ∷ b ∷ c ∷ [] ≡ partList leaf at k
+module _ (shapes classes at : List ℕ) (k : ℕ) where
+  pub three-parts : {a b c : ℕ} → a ≡ partRow shapes classes at k 0 → b ≡ partRow shapes classes at k 1 → c ≡ partRow shapes classes at k 2 → a ∷ b ∷ c ∷ [] ≡ partList shapes classes at k
   three-parts p q r = cc
 
-  part-at : (q : ℕ) → q < 3 → getD (partList leaf at k) q 0 ≡ partRow leaf at k q
+  part-at : (q : ℕ) → q < 3 → getD (partList shapes classes at k) q 0 ≡ partRow shapes classes at k q
   part-at zero h = refl
   part-at (suc zero) h = refl
   part-at (suc (suc zero)) h = refl
   part-at (suc (suc (suc q))) h = absurd (omega arith)
 
-  part-here : (p : ℕ) → p < manyAt (leaf .shapes) k → partRow leaf at k p ≡ getD at (getD (leaf .classes) (partAt (leaf .shapes) k p) 0) 0 - 1
+  part-here : (p : ℕ) → p < manyAt shapes k → partRow shapes classes at k p ≡ getD at (getD classes (partAt shapes k p) 0) 0 - 1
   unfolding partRow
-  part-here p h = ap (λ (b : Bool). cond b (getD at (getD (leaf .classes) (partAt (leaf .shapes) k p) 0) 0 - 1) 0) (lt-ltb p _ h)
+  part-here p h = ap (λ (b : Bool). cond b (getD at (getD classes (partAt shapes k p) 0) 0 - 1) 0) (lt-ltb p _ h)
 
-  pub part-missing : (p : ℕ) → manyAt (leaf .shapes) k ≤ p → partRow leaf at k p ≡ 0
+  pub part-missing : (p : ℕ) → manyAt shapes k ≤ p → partRow shapes classes at k p ≡ 0
   unfolding partRow
-  part-missing p h = ap (λ (b : Bool). cond b (getD at (getD (leaf .classes) (partAt (leaf .shapes) k p) 0) 0 - 1) 0) (le-ltb p _ h)
+  part-missing p h = ap (λ (b : Bool). cond b (getD at (getD classes (partAt shapes k p) 0) 0 - 1) 0) (le-ltb p _ h)
 
-  pub part-there : (p x : ℕ) → p < manyAt (leaf .shapes) k → x ≡ getD at (getD (leaf .classes) (partAt (leaf .shapes) k p) 0) 0 - 1 → x ≡ partRow leaf at k p
+  pub part-there : (p x : ℕ) → p < manyAt shapes k → x ≡ getD at (getD classes (partAt shapes k p) 0) 0 - 1 → x ≡ partRow shapes classes at k p
   part-there p x h e = e ∙ sym (part-here p h)
 
-  pub part-low : AtLow at → (p : ℕ) → partRow leaf at k p < 4096
+  pub part-low : AtLow at → (p : ℕ) → partRow shapes classes at k p < 4096
   part-low low p =
-      by-test (ltb p (manyAt (leaf .shapes) k)) (λ b. omega (arith, part-here p (ltb-true _ _ b), low (getD (leaf .classes) (partAt (leaf .shapes) k p) 0)))
+      by-test (ltb p (manyAt shapes k)) (λ b. omega (arith, part-here p (ltb-true _ _ b), low (getD classes (partAt shapes k p) 0)))
       (λ b. omega (arith, part-missing p (ltb-false _ _ b)))
 
-  all-low : AtLow at → (q : ℕ) → getD (partList leaf at k) q 0 < 4096
+  all-low : AtLow at → (q : ℕ) → getD (partList shapes classes at k) q 0 < 4096
   all-low low zero = part-low low 0
   all-low low (suc zero) = part-low low 1
   all-low low (suc (suc zero)) = part-low low 2
   all-low low (suc (suc (suc q))) = omega arith
 
-  pub parts-low : AtLow at → LowRows (partList leaf at k)
+  pub parts-low : AtLow at → LowRows (partList shapes classes at k)
   parts-low low = (refl, all-low low)
 
-  module _ (fits : LeafFits leaf) (inside : k < 30) (rows : List ℤ) (many r : ℕ) (rows′ : List ℤ) (many′ : ℕ) (few : many < 4096) (long : 16384 ≤ length rows) (kind : ℕ) (isKind : kind ≡ kindAt (leaf .shapes) k - 1)
-      (found : r ≡ rowFound rows 0 many (madeRow (kind / 16) (kind % 16) (map pos (partList leaf at k)))) (with-it : rows′ ≡ withRow rows many r (madeRow (kind / 16) (kind % 16) (map pos (partList leaf at k))))
-      (now : many′ ≡ manyAfter many r) where
-    pub shape-drawn : ShapeDrawn leaf at rows many k rows′ many′ r
-    shape-drawn ts val drawn c shape sheet lower =
-        subst (λ (m : Message). Drew ts rows many drawn 1 m rows′ many′ drawn r) (sym value)
-        (made-drew ts rows many drawn (sheet .store) few long (shape .type) (shape .variant) (partList leaf at k) f parts r rows′ many′
-        (found ∙ ap (rowFound rows 0 many) same) (with-it ∙ ap (withRow rows many r) same) now)
-      where
-        f : ℕ → Message
-        f p = val (partClass (openState ts leaf) val k p)
+module _ (leaf : Leaf) (at : List ℕ) (k : ℕ) (fits : LeafFits leaf) (inside : k < 30) (rows : List ℤ) (many r : ℕ) (rows′ : List ℤ) (many′ : ℕ) (few : many < 4096) (long : 16384 ≤ length rows) (kind : ℕ) (isKind : kind ≡ kindAt (leaf .shapes) k - 1)
+    (found : r ≡ rowFound rows 0 many (madeRow (kind / 16) (kind % 16) (map pos (partList (leaf .shapes) (leaf .classes) at k)))) (with-it : rows′ ≡ withRow rows many r (madeRow (kind / 16) (kind % 16) (map pos (partList (leaf .shapes) (leaf .classes) at k))))
+    (now : many′ ≡ manyAfter many r) where
+  pub shape-drawn : ShapeDrawn leaf at rows many k rows′ many′ r
+  shape-drawn ts val drawn c shape sheet lower =
+      subst (λ (m : Message). Drew ts rows many drawn 1 m rows′ many′ drawn r) (sym value)
+      (made-drew ts rows many drawn (sheet .store) few long (shape .type) (shape .variant) (partList (leaf .shapes) (leaf .classes) at k) f parts r rows′ many′
+      (found ∙ ap (rowFound rows 0 many) same) (with-it ∙ ap (withRow rows many r) same) now)
+    where
+      f : ℕ → Message
+      f p = val (partClass (openState ts leaf) val k p)
 
-        split : (kind ≡ 16 * shape .type + shape .variant)
-        split = omega (arith, isKind, shape .kind)
+      split : (kind ≡ 16 * shape .type + shape .variant)
+      split = omega (arith, isKind, shape .kind)
 
-        same : madeRow (kind / 16) (kind % 16) (map pos (partList leaf at k)) ≡ madeRow (shape .type) (shape .variant) (map pos (partList leaf at k))
-        same =
-            let t : kind / 16 ≡ shape .type = omega (arith, split, shape .small) in
-            let v : kind % 16 ≡ shape .variant = omega (arith, split, shape .small) in
-            ap (λ (u : ℕ). madeRow u (kind % 16) (map pos (partList leaf at k))) t ∙ ap (λ (u : ℕ). madeRow (shape .type) u (map pos (partList leaf at k))) v
+      same : madeRow (kind / 16) (kind % 16) (map pos (partList (leaf .shapes) (leaf .classes) at k)) ≡ madeRow (shape .type) (shape .variant) (map pos (partList (leaf .shapes) (leaf .classes) at k))
+      same =
+          let t : kind / 16 ≡ shape .type = omega (arith, split, shape .small) in
+          let v : kind % 16 ≡ shape .variant = omega (arith, split, shape .small) in
+          ap (λ (u : ℕ). madeRow u (kind % 16) (map pos (partList (leaf .shapes) (leaf .classes) at k))) t ∙ ap (λ (u : ℕ). madeRow (shape .type) u (map pos (partList (leaf .shapes) (leaf .classes) at k))) v
 
-        three : length (fieldsOf ts (shape .type) (shape .variant)) ≤ 3
-        three = omega (arith, shape .many, fits .shapesFit .many k inside)
+      three : length (fieldsOf ts (shape .type) (shape .variant)) ≤ 3
+      three = omega (arith, shape .many, fits .shapesFit .many k inside)
 
-        -- the row of a part's class
-        row-of : (p : ℕ) → p < manyAt (leaf .shapes) k → HasRow at (partClass (openState ts leaf) val k p)
-        row-of p h = lower (partClass (openState ts leaf) val k p) (shape .parts p h) (shape .falls p h)
+      -- the row of a part's class
+      row-of : (p : ℕ) → p < manyAt (leaf .shapes) k → HasRow at (partClass (openState ts leaf) val k p)
+      row-of p h = lower (partClass (openState ts leaf) val k p) (shape .parts p h) (shape .falls p h)
 
-        is-row : (q : ℕ) → (h : q < manyAt (leaf .shapes) k) → getD (partList leaf at k) q 0 ≡ row-of q h .0
-        is-row q h = part-at q (omega (arith, h, fits .shapesFit .many k inside)) ∙ part-here q h ∙ ap (λ (n : ℕ). n - 1) (row-of q h .1) ∙ less-one (row-of q h .0)
-          where
-            less-one : (n : ℕ) → suc n - 1 ≡ n
-            less-one n = omega arith
+      is-row : (q : ℕ) → (h : q < manyAt (leaf .shapes) k) → getD (partList (leaf .shapes) (leaf .classes) at k) q 0 ≡ row-of q h .0
+      is-row q h = part-at (leaf .shapes) (leaf .classes) at k q (omega (arith, h, fits .shapesFit .many k inside)) ∙ part-here (leaf .shapes) (leaf .classes) at k q h ∙ ap (λ (n : ℕ). n - 1) (row-of q h .1) ∙ less-one (row-of q h .0)
+        where
+          less-one : (n : ℕ) → suc n - 1 ≡ n
+          less-one n = omega arith
 
-        counted : (q : ℕ) → q < length (fieldsOf ts (shape .type) (shape .variant)) → q < manyAt (leaf .shapes) k
-        counted q h = omega (arith, h, shape .many)
+      counted : (q : ℕ) → q < length (fieldsOf ts (shape .type) (shape .variant)) → q < manyAt (leaf .shapes) k
+      counted q h = omega (arith, h, shape .many)
 
-        unused : (q : ℕ) → length (fieldsOf ts (shape .type) (shape .variant)) ≤ q → getD (partList leaf at k) q 0 ≡ 0
-        unused q h = by-test (ltb q 3) (λ b. part-at q (ltb-true q 3 b) ∙ part-missing q (omega (arith, h, shape .many))) (λ b. past q (ltb-false q 3 b))
-          where
-            past : (q : ℕ) → 3 ≤ q → getD (partList leaf at k) q 0 ≡ 0
-            past zero l = absurd (omega arith)
-            past (suc zero) l = absurd (omega arith)
-            past (suc (suc zero)) l = absurd (omega arith)
-            past (suc (suc (suc q))) l = refl
+      unused : (q : ℕ) → length (fieldsOf ts (shape .type) (shape .variant)) ≤ q → getD (partList (leaf .shapes) (leaf .classes) at k) q 0 ≡ 0
+      unused q h = by-test (ltb q 3) (λ b. part-at (leaf .shapes) (leaf .classes) at k q (ltb-true q 3 b) ∙ part-missing (leaf .shapes) (leaf .classes) at k q (omega (arith, h, shape .many))) (λ b. past q (ltb-false q 3 b))
+        where
+          past : (q : ℕ) → 3 ≤ q → getD (partList (leaf .shapes) (leaf .classes) at k) q 0 ≡ 0
+          past zero l = absurd (omega arith)
+          past (suc zero) l = absurd (omega arith)
+          past (suc (suc zero)) l = absurd (omega arith)
+          past (suc (suc (suc q))) l = refl
 
-        parts : PartsShow ts rows many (shape .type) (shape .variant) (partList leaf at k) f
-        parts = record {
-          small = shape .small;
-          fits = shape .fits;
-          three = refl;
-          few = three;
-          there = λ q h. subst (λ (n : ℕ). n < many) (sym (is-row q (counted q h))) (sheet .there _ _ (row-of q (counted q h) .1));
-          shows = λ q h. ap (messageAt ts rows many) (is-row q (counted q h)) ∙ sheet .shows _ _ (row-of q (counted q h) .1);
-          typed = λ q h. shape .typed q (counted q h);
-          unused = unused;
-        }
+      parts : PartsShow ts rows many (shape .type) (shape .variant) (partList (leaf .shapes) (leaf .classes) at k) f
+      parts = record {
+        small = shape .small;
+        fits = shape .fits;
+        three = refl;
+        few = three;
+        there = λ q h. subst (λ (n : ℕ). n < many) (sym (is-row q (counted q h))) (sheet .there _ _ (row-of q (counted q h) .1));
+        shows = λ q h. ap (messageAt ts rows many) (is-row q (counted q h)) ∙ sheet .shows _ _ (row-of q (counted q h) .1);
+        typed = λ q h. shape .typed q (counted q h);
+        unused = unused;
+      }
 
-        value : val c ≡ made (shape .type) (shape .variant) (toParts (map f (from (length (fieldsOf ts (shape .type) (shape .variant))) 0)))
-        value = shape .value ∙ ap (λ (n : ℕ). made (shape .type) (shape .variant) (toParts (map f (from n 0)))) (shape .many)
+      value : val c ≡ made (shape .type) (shape .variant) (toParts (map f (from (length (fieldsOf ts (shape .type) (shape .variant))) 0)))
+      value = shape .value ∙ ap (λ (n : ℕ). made (shape .type) (shape .variant) (toParts (map f (from n 0)))) (shape .many)
 
 -- ---- constants
 

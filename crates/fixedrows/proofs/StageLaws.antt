@@ -29,14 +29,14 @@ module _ (leaf : Leaf) (at : List ℕ) (n c : ℕ) where
     pub none : getD at c 0 ≡ 0
     pub rank : getD (leaf .ranks) c 0 ≡ n
 
-  pub due-is : isDue leaf at n c ≡ true → Due
+  pub due-is : isDue (leaf .marks) (leaf .ranks) at n c ≡ true → Due
   unfolding isDue
   due-is e =
       let r = and-right (eqb (getD (leaf .marks) c 0) 0) _ e in
       record { mark = and-left (eqb (getD (leaf .marks) c 0) 0) _ e; none = eqb-true _ _ (and-left (eqb (getD at c 0) 0) _ r); rank = eqb-true _ _ (and-right (eqb (getD at c 0) 0) _ r) }
 
   -- a class of the rank that gets a message and is not due has a row
-  pub not-due : (ts : Types) → isDue leaf at n c ≡ false → Wanted (openState ts leaf) c → getD (leaf .ranks) c 0 ≡ n → HasRow at c
+  pub not-due : (ts : Types) → isDue (leaf .marks) (leaf .ranks) at n c ≡ false → Wanted (openState ts leaf) c → getD (leaf .ranks) c 0 ≡ n → HasRow at c
   unfolding isDue marked isMarked
   not-due ts e want rank = by-test (eqb (getD at c 0) 0)
       (λ b. absurd (false≢true (sym e ∙ and-both (eqb (getD (leaf .marks) c 0) 0) _ (want .1) (and-both (eqb (getD at c 0) 0) _ b (eq-eqb _ _ rank)))))
@@ -55,14 +55,14 @@ rank-next x at n c before here d want rank l =
     (λ b. let ne : ¬ (d ≡ c) = eqb-false d c b in before d want rank (omega arith))
 
 module _ (leaf : Leaf) (at : List ℕ) (rows : List ℤ) (many n c : ℕ) where
-  pub passed-over : isDue leaf at n c ≡ false → Advances leaf at rows many n c at rows many n (suc c)
+  pub passed-over : isDue (leaf .marks) (leaf .ranks) at n c ≡ false → Advances leaf at rows many n c at rows many n (suc c)
   passed-over e ts val drawn pic stage = (
     grown-itself rows many,
     record { sheet = stage .sheet; free = stage .free; lower = stage .lower; same = rank-next (openState ts leaf) at n c (stage .same) (not-due leaf at n c ts e) },
   )
 
   -- what drawing a class that is due needs
-  module _ (small : c < 78) (staged : Staged leaf at rows many n c) (due : isDue leaf at n c ≡ true) where
+  module _ (small : c < 78) (staged : Staged leaf at rows many n c) (due : isDue (leaf .marks) (leaf .ranks) at n c ≡ true) where
     d : Due leaf at n c
     d = due-is leaf at n c due
 
@@ -79,7 +79,7 @@ module _ (leaf : Leaf) (at : List ℕ) (rows : List ℤ) (many n c : ℕ) where
     due-low = sheet-low (openState (staged .types) leaf) (staged .val) rows many (staged .drawn) at sheet-here
 
   -- a class that is due is drawn
-  module _ (small : c < 78) (due : isDue leaf at n c ≡ true) (rows′ : List ℤ) (many′ r : ℕ) (drawn-here : FixedDrawn leaf at rows many c rows′ many′ r) where
+  module _ (small : c < 78) (due : isDue (leaf .marks) (leaf .ranks) at n c ≡ true) (rows′ : List ℤ) (many′ r : ℕ) (drawn-here : FixedDrawn leaf at rows many c rows′ many′ r) where
     abbrev at′ : List ℕ
     at′ = set at c (suc r)
 
@@ -121,7 +121,7 @@ module _ (leaf : Leaf) (at : List ℕ) (rows : List ℤ) (many n c : ℕ) where
         let w : Drew (staged .types) rows many (staged .drawn) 1 (staged .val c) rows′ many′ (staged .drawn) r = class-drew (staged .types) (staged .val) (staged .drawn) (staged .pictured) (staged .stage) in
         omega (arith, w .there, w .cost)
 
-pub noted-advances : (leaf : Leaf) (at : List ℕ) (rows : List ℤ) (many n c : ℕ) (at′ : List ℕ) (rows′ : List ℤ) (many′ : ℕ) → c < 78 → isDue leaf at n c ≡ true → Noted leaf at rows many c at′ rows′ many′
+pub noted-advances : (leaf : Leaf) (at : List ℕ) (rows : List ℤ) (many n c : ℕ) (at′ : List ℕ) (rows′ : List ℤ) (many′ : ℕ) → c < 78 → isDue (leaf .marks) (leaf .ranks) at n c ≡ true → Noted leaf at rows many c at′ rows′ many′
     → Advances leaf at rows many n c at′ rows′ many′ n (suc c)
 noted-advances leaf at rows many n c at′ rows′ many′ small due noted ts val drawn pic stage = (
   class-drew leaf at rows many n c small due rows′ many′ (noted .row) (noted .drew) ts val drawn pic stage .grown,
@@ -129,6 +129,13 @@ noted-advances leaf at rows many n c at′ rows′ many′ small due noted ts va
 )
 
 -- ---- one after the other
+
+-- the same by other names
+pub advances-as : (leaf : Leaf) (at : List ℕ) (rows : List ℤ) (many n c n′ c′ : ℕ) (at′ at″ : List ℕ) (rows′ rows″ : List ℤ) (many′ many″ : ℕ) → at″ ≡ at′ → rows″ ≡ rows′ → many″ ≡ many′
+    → Advances leaf at rows many n c at′ rows′ many′ n′ c′ → Advances leaf at rows many n c at″ rows″ many″ n′ c′
+advances-as leaf at rows many n c n′ c′ at′ at″ rows′ rows″ many′ many″ ea er em h =
+    subst (λ (a : List ℕ). Advances leaf at rows many n c a rows″ many″ n′ c′) (sym ea)
+    (subst (λ (r : List ℤ). Advances leaf at rows many n c at′ r many″ n′ c′) (sym er) (subst (λ (m : ℕ). Advances leaf at rows many n c at′ rows′ m n′ c′) (sym em) h))
 
 module _ (leaf : Leaf) (at : List ℕ) (rows : List ℤ) (many n c : ℕ) where
   pub advances-none : Advances leaf at rows many n c at rows many n c

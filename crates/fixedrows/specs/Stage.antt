@@ -52,8 +52,8 @@ Advances leaf at rows many n c at′ rows′ many′ n′ c′ =
 -- ---- one class
 
 -- the row of part p of shape k; 0 where there is no such part
-unfoldable pub partRow : Leaf → List ℕ → ℕ → ℕ → ℕ
-partRow leaf at k p = cond (ltb p (manyAt (leaf .shapes) k)) (getD at (getD (leaf .classes) (partAt (leaf .shapes) k p) 0) 0 - 1) 0
+unfoldable pub partRow : List ℕ → List ℕ → List ℕ → ℕ → ℕ → ℕ
+partRow shapes classes at k p = cond (ltb p (manyAt shapes k)) (getD at (getD classes (partAt shapes k p) 0) 0 - 1) 0
 
 -- rows are numbers below 4,096
 abbrev pub AtLow : List ℕ → Type 0
@@ -89,11 +89,11 @@ pub record Noted (leaf : Leaf) (at : List ℕ) (rows : List ℤ) (many c : ℕ) 
 -- ---- all classes
 
 -- class c gets a message, has no row, and is of rank n
-unfoldable pub isDue : Leaf → List ℕ → ℕ → ℕ → Bool
-isDue leaf at n c = eqb (getD (leaf .marks) c 0) 0 && (eqb (getD at c 0) 0 && eqb (getD (leaf .ranks) c 0) n)
+unfoldable pub isDue : List ℕ → List ℕ → List ℕ → ℕ → ℕ → Bool
+isDue marks ranks at n c = eqb (getD marks c 0) 0 && (eqb (getD at c 0) 0 && eqb (getD ranks c 0) n)
 
 -- class c is due in a stage of drawing
 pub record DueNow (leaf : Leaf) (at : List ℕ) (rows : List ℤ) (many c : ℕ) : Type 0 where
   pub rank : ℕ
   pub staged : Staged leaf at rows many rank c
-  pub due : isDue leaf at rank c ≡ true
+  pub due : isDue (leaf .marks) (leaf .ranks) at rank c ≡ true

@@ -7,6 +7,8 @@ use leaf::Leaf;
 ghost use mathlib.Core.Path.{_≡_};
 ghost use Prim.Native.Nat.{suc, _-_, _≤_, _<_};
 ghost use lib.ListN.{length, getD};
+ghost use Rattle.classes.specs.Held.{Held};
+ghost use Rattle.slots.specs.Slots.{ShapesFit};
 ghost use Rattle.leaf.specs.Leaf.{LeafFits};
 ghost use Rattle.fixedrows.specs.Stage.{Advances, AtLow, ConstantDrawn, DueNow, FixedDrawn, Noted, ShapeDrawn, SingleDrawn, Staged, isDue, partRow};
 
@@ -40,17 +42,16 @@ pub fn row_at(at: &[u16; 96], c: u8) -> usize
 }
 
 // The row of part `p` of shape `k`; 0 if there is no such part.
-fn part_row(leaf: Leaf, at: &[u16; 96], k: usize, p: usize) -> usize
+fn part_row(shapes: &[u16; 256], classes: &[u8; 96], at: &[u16; 96], k: usize, p: usize) -> usize
     requires { ⌜ (k < 30) × (p < 3) ⌝ }
-    requires { ⌜ LeafFits leaf ⌝ }
-    ensures { λ r. ⌜ r ≡ partRow leaf (now (at .entry)) k p ⌝ }
+    requires { ⌜ ShapesFit (now shapes) ⌝ }
+    requires { ⌜ Held (now classes) ⌝ }
+    ensures { λ r. ⌜ r ≡ partRow (now (shapes .entry)) (now (classes .entry)) (now (at .entry)) k p ⌝ }
 {
-    let shapes = leaf.shapes;
-    let classes = leaf.classes;
-    if p >= slots::many(&shapes, k) {
+    if p >= slots::many(shapes, k) {
         return 0;
     }
-    row_at(at, classes::class_of(&classes, slots::part(&shapes, k, p)))
+    row_at(at, classes::class_of(classes, slots::part(shapes, k, p)))
 }
 
 // Shape `k` over the rows of its parts.
@@ -62,10 +63,12 @@ fn shape_row(leaf: Leaf, at: &[u16; 96], rows: &mut [i32], many: usize, k: usize
     requires { ⌜ 16384 ≤ length (now rows) ⌝ }
     ensures { λ d. ⌜ ShapeDrawn leaf (now (at .entry)) (now (rows .entry)) many k (now (rows .exit)) (d .many) (d .row) ⌝ }
 {
-    let kind = less_word(leaf.shapes[8 * k + 1]);
-    let a = part_row(leaf, at, k, 0);
-    let b = part_row(leaf, at, k, 1);
-    let c = part_row(leaf, at, k, 2);
+    let shapes = leaf.shapes;
+    let classes = leaf.classes;
+    let kind = less_word(shapes[8 * k + 1]);
+    let a = part_row(&shapes, &classes, at, k, 0);
+    let b = part_row(&shapes, &classes, at, k, 1);
+    let c = part_row(&shapes, &classes, at, k, 2);
     made_row(
         rows,
         many,
@@ -148,30 +151,17 @@ fn draw_class(leaf: Leaf, at: &mut [u16; 96], rows: &mut [i32], many: usize, c: 
 }
 
 // Whether class `c` is to be drawn among those of rank `n`.
-fn is_due(leaf: Leaf, at: &[u16; 96], n: u8, c: u8) -> bool
+fn is_due(marks: &[u8; 96], ranks: &[u8; 96], at: &[u16; 96], n: u8, c: u8) -> bool
     requires { ⌜ c < 96 ⌝ }
-    ensures { λ r. ⌜ r ≡ isDue leaf (now (at .entry)) n c ⌝ }
+    ensures { λ r. ⌜ r ≡ isDue (now (marks .entry)) (now (ranks .entry)) (now (at .entry)) n c ⌝ }
 {
-    if leaf.marks[c as usize] != 0 {
+    if marks[c as usize] != 0 {
         return false;
     }
     if at[c as usize] != 0 {
         return false;
     }
-    leaf.ranks[c as usize] == n
-}
-
-// Class `c`, if it is of rank `n` and has no row yet.
-fn draw_if_due(leaf: Leaf, at: &mut [u16; 96], rows: &mut [i32], many: usize, n: u8, c: u8) -> usize
-    requires { ⌜ c < 78 ⌝ }
-    requires { ⌜ LeafFits leaf ⌝ }
-    requires { ⌜ Staged leaf (now at) (now rows) many n c ⌝ }
-    ensures { λ r. ⌜ Advances leaf (now (at .entry)) (now (rows .entry)) many n c (now (at .exit)) (now (rows .exit)) r n (suc c) ⌝ }
-{
-    if is_due(leaf, at, n, c) {
-        return draw_class(leaf, at, rows, many, c);
-    }
-    many
+    ranks[c as usize] == n
 }
 
 // The classes of rank `n` that have no row yet.
@@ -180,10 +170,14 @@ fn draw_rank(leaf: Leaf, at: &mut [u16; 96], rows: &mut [i32], many: usize, n: u
     requires { ⌜ Staged leaf (now at) (now rows) many n 0 ⌝ }
     ensures { λ r. ⌜ Advances leaf (now (at .entry)) (now (rows .entry)) many n 0 (now (at .exit)) (now (rows .exit)) r (suc n) 0 ⌝ }
 {
+    let marks = leaf.marks;
+    let ranks = leaf.ranks;
     let mut count = many;
     let mut c: u8 = 0;
     while c < 78 {
-        count = draw_if_due(leaf, at, rows, count, n, c);
+        if is_due(&marks, &ranks, at, n, c) {
+            count = draw_class(leaf, at, rows, count, c);
+        }
         c += 1;
     }
     count

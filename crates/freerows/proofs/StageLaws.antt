@@ -167,6 +167,20 @@ module _ (x : OpenState) where
                 let (d, q, e, u) = stage .under i l in
                 (d, q, noted-kept at c r inside none-yet d q e, drew-under (done .drew) (stage .store .stored) q i (stage .there d q e) u)
 
+-- the classes below c are passed, since the buffer was as at entry
+abbrev pub Reached : OpenState → ℕ → List ℤ → List ℕ → List ℤ → ℕ → List ℕ → List ℕ → ℕ → Type 0
+Reached x c entry at rows many drawn tops last = Grown entry 0 rows many × FreeStage x c at rows many drawn tops last
+
+-- the same by other names
+pub reached-as : (x : OpenState) (c : ℕ) (entry : List ℤ) (at at′ : List ℕ) (rows rows′ : List ℤ) (many many′ : ℕ) (drawn drawn′ tops tops′ : List ℕ) (last last′ : ℕ)
+    → at′ ≡ at → rows′ ≡ rows → drawn′ ≡ drawn → tops′ ≡ tops → many′ ≡ many → last′ ≡ last → Reached x c entry at rows many drawn tops last → Reached x c entry at′ rows′ many′ drawn′ tops′ last′
+reached-as x c entry at at′ rows rows′ many many′ drawn drawn′ tops tops′ last last′ ea er ed et em el h =
+    subst (λ (v : List ℕ). Reached x c entry v rows′ many′ drawn′ tops′ last′) (sym ea)
+    (subst (λ (v : List ℤ). Reached x c entry at v many′ drawn′ tops′ last′) (sym er)
+    (subst (λ (v : List ℕ). Reached x c entry at rows many′ v tops′ last′) (sym ed)
+    (subst (λ (v : List ℕ). Reached x c entry at rows many′ drawn v last′) (sym et)
+    (subst (λ (v : ℕ). Reached x c entry at rows v drawn tops last′) (sym em) (subst (λ (v : ℕ). Reached x c entry at rows many drawn tops v) (sym el) h)))))
+
 -- all classes are passed
 pub stage-end : (ts : Types) (leaf : Leaf) (entry : List ℤ) (at : List ℕ) (rows : List ℤ) (many : ℕ) (drawn tops : List ℕ) (last c : ℕ) → c ≡ 78 → Grown entry 0 rows many
     → FreeStage (openState ts leaf) c at rows many drawn tops last → FreeSheet ts leaf entry at rows many

@@ -3,20 +3,18 @@
 use growthrows::Forms;
 use leaf::Leaf;
 ghost use mathlib.Core.Path.{_≡_};
-ghost use mathlib.Core.Bool.{false};
+ghost use mathlib.Core.Bool.{true, false};
 ghost use Prim.Native.Nat.{suc, _+_, _≤_, _<_};
 ghost use lib.IntN.{pos};
 ghost use lib.ListN.{length};
 ghost use Rattle.guard.specs.Types.{isNumber};
-ghost use Rattle.classes.specs.Held.{state};
 ghost use Rattle.rowstore.specs.Store.{Grown};
 ghost use Rattle.growth.proofs.Growth.{chosenType, stepsToNumber};
 ghost use Rattle.growth.proofs.Plans.{Plan.into, plannedMessage};
 ghost use Rattle.growthrows.specs.Forms.{FormsFit, typesIn};
 ghost use Rattle.growthrows.specs.Drawing.{Drew, NumberDrawn, Room, Store};
-ghost use Rattle.plans.specs.Chosen.{freeAt};
 ghost use Rattle.plans.specs.Fresh.{nextFresh};
-ghost use Rattle.plans.specs.Plans.{highestRank, typeFor};
+ghost use Rattle.plans.specs.Plans.{highestRank, isFree, typeFor};
 ghost use Rattle.leaf.specs.Leaf.{LeafFits, openState};
 ghost use Rattle.chains.specs.Chains.{Starts};
 ghost use Rattle.freerows.specs.Free.{Blank, ClassFits, FreeDrawn, FreeFits, FreeNow, FreeSheet, FreeStage};
@@ -153,32 +151,7 @@ fn free_row(
     variant_planned(leaf, forms, rows, drawn, tops, many, most, last, c, t)
 }
 
-// Whether class `c` is free.
-fn is_free_class(leaf: Leaf, c: u8) -> bool
-    requires { ⌜ c < 78 ⌝ }
-    requires { ⌜ LeafFits leaf ⌝ }
-    ensures { λ r. ⌜ r ≡ freeAt (leaf .shapes) (leaf .sorts) (leaf .fieldless) (leaf .constants) (leaf .marks) (state (leaf .classes) (leaf .labels)) c ⌝ }
-{
-    let classes = leaf.classes;
-    let labels = leaf.labels;
-    let shapes = leaf.shapes;
-    let sorts = leaf.sorts;
-    let fieldless = leaf.fieldless;
-    let constants = leaf.constants;
-    let marks = leaf.marks;
-    plans::is_free(
-        &classes,
-        &labels,
-        &shapes,
-        &sorts,
-        &fieldless,
-        &constants,
-        &marks,
-        c,
-    )
-}
-
-// Draws class `c` if it is free, and notes its row.
+// Draws free class `c`, and notes its row.
 fn draw_free(
     leaf: Leaf,
     forms: Forms,
@@ -197,15 +170,10 @@ fn draw_free(
     requires { ⌜ FreeFits (openState (typesIn forms) leaf) ⌝ }
     requires { ⌜ most ≡ highestRank (openState (typesIn forms) leaf) ⌝ }
     requires { ⌜ FreeStage (openState (typesIn forms) leaf) c (now at) (now rows) many (now drawn) (now tops) last ⌝ }
+    requires { ⌜ isFree (openState (typesIn forms) leaf) c ≡ true ⌝ }
     ensures { λ d. ⌜ FreeStage (openState (typesIn forms) leaf) (suc c) (now (at .exit)) (now (rows .exit)) (d .many) (now (drawn .exit)) (now (tops .exit)) (d .last) ⌝ }
     ensures { λ d. ⌜ Grown (now (rows .entry)) many (now (rows .exit)) (d .many) ⌝ }
 {
-    if !is_free_class(leaf, c) {
-        return Counted {
-            many: many,
-            last: last,
-        };
-    }
     let d = free_row(leaf, forms, rows, drawn, tops, many, most, last, c);
     at[c as usize] = (d.row + 1) as u16;
     Counted {
@@ -225,26 +193,44 @@ pub fn free_rows(leaf: Leaf, forms: Forms, at: &mut [u16; 96], rows: &mut [i32],
     requires { ⌜ 16384 ≤ length (now rows) ⌝ }
     ensures { λ r. ⌜ FreeSheet (typesIn forms) leaf (now (rows .entry)) (now (at .exit)) (now (rows .exit)) r ⌝ }
 {
+    let classes = leaf.classes;
+    let labels = leaf.labels;
+    let shapes = leaf.shapes;
+    let sorts = leaf.sorts;
+    let fieldless = leaf.fieldless;
+    let constants = leaf.constants;
+    let marks = leaf.marks;
     let mut drawn = [0u16; 6];
     let mut tops = [0u16; 6];
     let mut many: usize = 0;
     let mut last: u32 = 0;
     let mut c: u8 = 0;
     while c < 78 {
-        let d = draw_free(
-            leaf,
-            forms,
-            at,
-            rows,
-            &mut drawn,
-            &mut tops,
-            many,
-            most,
-            last,
+        if plans::is_free(
+            &classes,
+            &labels,
+            &shapes,
+            &sorts,
+            &fieldless,
+            &constants,
+            &marks,
             c,
-        );
-        many = d.many;
-        last = d.last;
+        ) {
+            let d = draw_free(
+                leaf,
+                forms,
+                at,
+                rows,
+                &mut drawn,
+                &mut tops,
+                many,
+                most,
+                last,
+                c,
+            );
+            many = d.many;
+            last = d.last;
+        }
         c += 1;
     }
     many

@@ -178,6 +178,12 @@ fn parts(
             continue;
         }
         let s = sort(forms, t, v, p);
+        let known = drawn[s as usize] as usize;
+        if 0 < known {
+            list[p] = known - 1;
+            p += 1;
+            continue;
+        }
         let d = default_row(forms, rows, drawn, count, s);
         list[p] = d.row;
         count = d.many;

@@ -20,8 +20,8 @@ add-less-word c = search needs
 mul-less-word-2 : tie.Need-mul-less-word-2
 mul-less-word-2 c = search needs
 
-element-copy-out-less-word : tie.Need-element-copy-out-less-word
-element-copy-out-less-word c = search needs
+array-read-less-word : tie.Need-array-read-less-word
+array-read-less-word c = search needs
 
 less-word-requires : tie.Need-less-word-requires
 less-word-requires c κs = search needs
@@ -36,28 +36,29 @@ part-row-requires-3 : tie.Need-part-row-requires-3
 part-row-requires-3 c κs = search needs
 
 cast-made-row : tie.Need-cast-made-row
-cast-made-row c = let s = c .before .before .before .before .before .before in record { fits = omega (arith, c .before .before .before .before .less-word .ensures, s .pre .1 .0 .kinds (s .args .k) (s .pre .0)) }
+cast-made-row c = let s = c .before .before .before .before .before .before .before .before .before .before .before .before .before in record { fits = omega (arith, c .before .before .before .before .before .before .before .before .before .before .less-word .ensures, s .pre .1 .0 .kinds (s .args .k) (s .pre .0)) }
 
 cast-made-row-2 : tie.Need-cast-made-row-2
 cast-made-row-2 c = search needs
 
 made-row-requires : tie.Need-made-row-requires
 made-row-requires c κs =
-    let s = c .before .before .before .before .before .before in
+    let s = c .before .before .before .before .before .before .before .before .before .before .before .before .before in
     let a = s .args in
-    (s .pre .1 .1 .1 .0, (s .pre .1 .1 .1 .1, subst LowRows (sym (three-parts (a .t1) (a .at .now) (a .k) (c .before .before .before .part-row .ensures) (c .before .before .part-row2 .ensures) (c .before .part-row3 .ensures))) (parts-low (a .t1) (a .at .now) (a .k) (s .pre .1 .1 .0))))
+    (s .pre .1 .1 .1 .0, (s .pre .1 .1 .1 .1, subst LowRows (sym (three-parts (a .leaf .shapes) (a .leaf .classes) (a .at .now) (a .k) (c .before .before .before .before .before .before .before .part-row .ensures) (c .before .before .before .before .part-row2 .ensures) (c .before .part-row3 .ensures))) (parts-low (a .leaf .shapes) (a .leaf .classes) (a .at .now) (a .k) (s .pre .1 .1 .0))))
 
 same-length : tie.Need-same-length
 same-length c = search needs
 
 returns : tie.Need-returns
 returns c =
-    let s = c .before .before .before .before .before .before .before .before in
+    let s = c .before .before .before .before .before .before .before .before .before .before .before .before .before .before .before in
     let a = s .args in
     let d = c .before .made-row in
-    let kind = c .before .before .before .before .before .before .less-word .result in
-    let parts = three-parts (a .t1) (a .at .now) (a .k) (c .before .before .before .before .before .part-row .ensures) (c .before .before .before .before .part-row2 .ensures) (c .before .before .before .part-row3 .ensures) in
-    shape-drawn (a .t1) (a .at .now) (a .k) (s .pre .1 .0) (s .pre .0) (a .rows .now) (a .many) (d .result .row) _ _ (s .pre .1 .1 .1 .0) (s .pre .1 .1 .1 .1) kind (c .before .before .before .before .before .before .less-word .ensures)
+    let k = c .before .before .before .before .before .before .before .before .before .before .before .before .less-word in
+    let kind = k .result in
+    let parts = three-parts (a .leaf .shapes) (a .leaf .classes) (a .at .now) (a .k) (c .before .before .before .before .before .before .before .before .before .part-row .ensures) (c .before .before .before .before .before .before .part-row2 .ensures) (c .before .before .before .part-row3 .ensures) in
+    shape-drawn (a .leaf) (a .at .now) (a .k) (s .pre .1 .0) (s .pre .0) (a .rows .now) (a .many) (d .result .row) _ _ (s .pre .1 .1 .1 .0) (s .pre .1 .1 .1 .1) kind (k .ensures)
     (d .ensures .0 ∙ ap (λ (ps : List ℕ). rowFound (a .rows .now) 0 (a .many) (madeRow (kind / 16) (kind % 16) (map pos ps))) parts)
     (d .ensures .1 .0 ∙ ap (λ (ps : List ℕ). withRow (a .rows .now) (a .many) (d .result .row) (madeRow (kind / 16) (kind % 16) (map pos ps))) parts) (d .ensures .1 .1)
 
@@ -68,7 +69,7 @@ shape-row-spec =
     mul-less-word
     add-less-word
     mul-less-word-2
-    element-copy-out-less-word
+    array-read-less-word
     less-word-requires
     part-row-requires
     part-row-requires-2

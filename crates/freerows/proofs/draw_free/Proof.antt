@@ -2,45 +2,32 @@
 use borrow.Author.Needs.{needs}
 use Rattle.freerows.proofs.draw_free.Statement.{statement}
 use Rattle.freerows.proofs.draw_free.Tie as tie
-use Rattle.freerows.proofs.StageLaws.{free-read, highest-low, stage-next, stage-now, stage-skip}
-use mathlib.Core.Path.{sym, _∙_, subst}
+use Rattle.freerows.proofs.StageLaws.{highest-low, stage-next, stage-now}
+use mathlib.Core.Path.{sym, subst}
 use Prim.Native.Nat.{ℕ, suc}
+use native.Mathlib.Omega.{arith}
 use native.Mathlib.Numerals.{add-one}
 use lib.ListN.{set}
-use borrow.Author.Tests.{not-false, not-true}
-use Rattle.rowstore.proofs.StoreLaws.{grown-itself}
 use Rattle.growthrows.specs.Forms.{typesIn}
 use Rattle.leaf.specs.Leaf.{openState}
 use Rattle.freerows.specs.Free.{FreeStage}
 
-is-free-class-requires : tie.Need-is-free-class-requires
-is-free-class-requires c κs = search needs
-
-returns : tie.Need-returns
-returns c =
-    let s = c .before .before in
-    let a = s .args in
-    let ts = typesIn (a .forms) in
-    let x = openState ts (a .leaf) in
-    let p = s .pre .1 .1 .1 in
-    let f = c .before .is-free-class in
-    (stage-skip x (a .c) (s .pre .0) (a .at .now) (a .rows .now) (a .many) (a .drawn .now) (a .tops .now) (a .last) (p .1 .1) (free-read ts (a .leaf) (a .c) ∙ sym (f .ensures) ∙ not-true _ (c .if1 .taken)), grown-itself (a .rows .now) (a .many))
-
 free-row-requires : tie.Need-free-row-requires
 free-row-requires c κs =
-    let s = c .before .before .before .before .before in
+    let s = c .before .before .before in
     let a = s .args in
     let ts = typesIn (a .forms) in
-    let x = openState ts (a .leaf) in
     let p = s .pre .1 .1 .1 in
-    let f = c .before .before .before .before .is-free-class in
-    (s .pre .1 .1 .0, stage-now x (a .c) (s .pre .0) (a .at .now) (a .rows .now) (a .many) (a .drawn .now) (a .tops .now) (a .last) (p .1 .1) (free-read ts (a .leaf) (a .c) ∙ sym (f .ensures) ∙ not-false _ (c .before .before .before .if1 .left)) (p .0) (a .most) (p .1 .0) (highest-low ts (a .leaf) (s .pre .1 .0) (a .most) (p .1 .0)))
+    (s .pre .1 .1 .0, stage-now (openState ts (a .leaf)) (a .c) (s .pre .0) (a .at .now) (a .rows .now) (a .many) (a .drawn .now) (a .tops .now) (a .last) (p .1 .1 .0) (p .1 .1 .1) (p .0) (a .most) (p .1 .0) (highest-low ts (a .leaf) (s .pre .1 .0) (a .most) (p .1 .0)))
 
 add-at : tie.Need-add-at
 add-at c = search needs
 
 cast-at : tie.Need-cast-at
-cast-at c = search needs
+cast-at c =
+    let s = c .before .before .before .before .before .before in
+    let d = c .before .before .free-row .ensures .drew in
+    record { fits = omega (arith, s .pre .0, s .pre .1 .1 .1 .1 .1 .0 .room, d .there, d .cost) }
 
 mul-at : tie.Need-mul-at
 mul-at c = search needs
@@ -51,27 +38,16 @@ element-write-at c = search needs
 same-length : tie.Need-same-length
 same-length c = search needs
 
-returns-2 : tie.Need-returns-2
-returns-2 c =
-    let s = c .before .before .before .before .before .before .before .before in
+returns : tie.Need-returns
+returns c =
+    let s = c .before .before .before .before .before .before in
     let a = s .args in
-    let ts = typesIn (a .forms) in
-    let x = openState ts (a .leaf) in
-    let p = s .pre .1 .1 .1 in
-    let f = c .before .before .before .before .before .before .before .is-free-class in
+    let x = openState (typesIn (a .forms)) (a .leaf) in
+    let p = s .pre .1 .1 .1 .1 .1 in
     let d = c .before .before .free-row in
-    (subst (λ (n : ℕ). FreeStage x (suc (a .c)) (set (a .at .now) (a .c) n) (d .last .1 .1 .0) (d .result .many) (d .last .1 .1 .1 .0) (d .last .1 .1 .1 .1 .0) (d .result .last)) (sym (add-one (d .result .row))) (stage-next x (a .c) (s .pre .0) (a .at .now) (a .rows .now) (a .many) (a .drawn .now) (a .tops .now) (a .last) (p .1 .1) (free-read ts (a .leaf) (a .c) ∙ sym (f .ensures) ∙ not-false _ (c .before .before .before .before .before .before .if1 .left)) (d .last .1 .1 .0) (d .result .many) (d .last .1 .1 .1 .0) (d .last .1 .1 .1 .1 .0) (d .result .last) (d .result .row) (d .ensures)), d .ensures .drew .grown)
+    (subst (λ (n : ℕ). FreeStage x (suc (a .c)) (set (a .at .now) (a .c) n) (d .last .1 .1 .0) (d .result .many) (d .last .1 .1 .1 .0) (d .last .1 .1 .1 .1 .0) (d .result .last)) (sym (add-one (d .result .row))) (stage-next x (a .c) (s .pre .0) (a .at .now) (a .rows .now) (a .many) (a .drawn .now) (a .tops .now) (a .last) (p .0) (p .1) (d .last .1 .1 .0) (d .result .many) (d .last .1 .1 .1 .0) (d .last .1 .1 .1 .1 .0) (d .result .last) (d .result .row) (d .ensures)), d .ensures .drew .grown)
 
 pub draw-free-spec : {M : Type 1} → statement M
 draw-free-spec =
     tie.close
-    (tie.spec
-    is-free-class-requires
-    returns
-    free-row-requires
-    add-at
-    cast-at
-    mul-at
-    element-write-at
-    same-length
-    returns-2)
+    (tie.spec free-row-requires add-at cast-at mul-at element-write-at same-length returns)

@@ -221,29 +221,56 @@ parts-loop-again t c =
     let l = c .before .before .loop in
     (omega (arith, c .before .loop-test .taken), parted-given ts fs (a .c) (a .row) (a .rows .now) (a .many) (a .drawn .now) (l .p) (l .list) (l .rows) (l .count) (l .drawn) (l .inv .1) (in-three t (c .before)) (in-fields t (c .before)) (c .if1 .taken) (s .pre .1 .1 .1 .1 .1 .1), l .inv .2)
 
-parts-default-row-requires : (t : ℕ) → parts-lts.Need-default-row-requires (parts-calls t) (parts-at t) parts.Post parts-Inv-loop parts-μ-loop
-parts-default-row-requires t c κs =
+-- the type of a field
+field-inside : (t : ℕ) (c : parts-lts.After-sort (parts-calls t) (parts-at t) parts.Post parts-Inv-loop parts-μ-loop) → c .sort .result < length (typesIn (c .before .before .before .before .before .args .forms))
+field-inside t c =
+    let s = c .before .before .before .before .before in
+    let a = s .args in
+    omega (arith, c .sort .ensures, sort-inside (a .forms) (s .pre .1 .0) (a .t) (a .v) (c .before .before .before .loop .p) (in-fields t (c .before .before)))
+
+field-six : (t : ℕ) (c : parts-lts.After-sort (parts-calls t) (parts-at t) parts.Post parts-Inv-loop parts-μ-loop) → c .sort .result < 6
+field-six t c =
+    let s = c .before .before .before .before .before in
+    type-small (s .args .forms) (s .pre .1 .0) (c .sort .result) (field-inside t c)
+
+-- its default may be drawn already
+parts-loop-again-2 : (t : ℕ) → parts-lts.Need-loop-again-2 (parts-calls t) (parts-at t) parts.Post parts-Inv-loop parts-μ-loop
+parts-loop-again-2 t c =
     let s = c .before .before .before .before .before .before .before in
     let a = s .args in
     let ts = typesIn (a .forms) in
     let fs = fieldsOf ts (a .t) (a .v) in
     let l = c .before .before .before .before .before .loop in
     let x = c .before .before .sort in
-    let i = in-fields t (c .before .before .before .before) in
-    (omega (arith, part-smaller ts fs (l .p) i (x .result) (x .ensures), s .pre .0), (s .pre .1 .0, (l .inv .1 .store, (parted-room ts fs (a .c) (a .row) (a .rows .now) (a .many) (a .drawn .now) (l .p) (l .list) (l .rows) (l .count) (l .drawn) (l .inv .1) 0 (s .pre .1 .1 .1 .0), omega (arith, x .ensures, sort-inside (a .forms) (s .pre .1 .0) (a .t) (a .v) (l .p) i)))))
+    let i = in-fields t (c .before .before .before .before) in (
+      omega (arith, c .before .before .before .before .loop-test .taken),
+      parted-default ts fs (a .c) (a .row) (a .rows .now) (a .many) (a .drawn .now) (l .p) (l .list) (l .rows) (l .count) (l .drawn) (l .inv .1) (in-three t (c .before .before .before .before)) i (c .before .before .before .if1 .left) (x .result) (x .ensures) (getD (l .drawn) (x .result) 0 - 1) (l .rows) (l .count) (l .drawn) (default-known ts (l .rows) (l .count) (l .drawn) (x .result) (l .inv .1 .store) (c .if2 .taken)),
+      l .inv .2,
+    )
 
-parts-loop-again-2 : (t : ℕ) → parts-lts.Need-loop-again-2 (parts-calls t) (parts-at t) parts.Post parts-Inv-loop parts-μ-loop
-parts-loop-again-2 t c =
+parts-default-row-requires : (t : ℕ) → parts-lts.Need-default-row-requires (parts-calls t) (parts-at t) parts.Post parts-Inv-loop parts-μ-loop
+parts-default-row-requires t c κs =
     let s = c .before .before .before .before .before .before .before .before .before in
     let a = s .args in
     let ts = typesIn (a .forms) in
     let fs = fieldsOf ts (a .t) (a .v) in
     let l = c .before .before .before .before .before .before .before .loop in
     let x = c .before .before .before .before .sort in
+    let i = in-fields t (c .before .before .before .before .before .before) in
+    (omega (arith, part-smaller ts fs (l .p) i (x .result) (x .ensures), s .pre .0), (s .pre .1 .0, (l .inv .1 .store, (parted-room ts fs (a .c) (a .row) (a .rows .now) (a .many) (a .drawn .now) (l .p) (l .list) (l .rows) (l .count) (l .drawn) (l .inv .1) 0 (s .pre .1 .1 .1 .0), field-inside t (c .before .before .before .before)))))
+
+parts-loop-again-3 : (t : ℕ) → parts-lts.Need-loop-again-3 (parts-calls t) (parts-at t) parts.Post parts-Inv-loop parts-μ-loop
+parts-loop-again-3 t c =
+    let s = c .before .before .before .before .before .before .before .before .before .before .before in
+    let a = s .args in
+    let ts = typesIn (a .forms) in
+    let fs = fieldsOf ts (a .t) (a .v) in
+    let l = c .before .before .before .before .before .before .before .before .before .loop in
+    let x = c .before .before .before .before .before .before .sort in
     let d = c .before .default-row in
-    let i = in-fields t (c .before .before .before .before .before .before) in (
-      omega (arith, c .before .before .before .before .before .before .loop-test .taken),
-      parted-default ts fs (a .c) (a .row) (a .rows .now) (a .many) (a .drawn .now) (l .p) (l .list) (l .rows) (l .count) (l .drawn) (l .inv .1) (in-three t (c .before .before .before .before .before .before)) i (c .before .before .before .before .before .if1 .left) (x .result) (x .ensures) (d .result .row) (d .last .1 .0) (d .result .many) (d .last .1 .1 .0) (d .ensures .0),
+    let i = in-fields t (c .before .before .before .before .before .before .before .before) in (
+      omega (arith, c .before .before .before .before .before .before .before .before .loop-test .taken),
+      parted-default ts fs (a .c) (a .row) (a .rows .now) (a .many) (a .drawn .now) (l .p) (l .list) (l .rows) (l .count) (l .drawn) (l .inv .1) (in-three t (c .before .before .before .before .before .before .before .before)) i (c .before .before .before .before .before .before .before .if1 .left) (x .result) (x .ensures) (d .result .row) (d .last .1 .0) (d .result .many) (d .last .1 .1 .0) (d .ensures .0),
       sparing-next ts fs (l .p) i (x .result) (x .ensures) (a .drawn .now) (l .drawn) (d .last .1 .1 .0) (l .inv .2) (d .ensures .1),
     )
 
@@ -297,11 +324,21 @@ pub +default-row+parts-spec : {M : Type 1} → statement M
     (λ c. omega (arith, c .before .loop-test .taken))
     (parts-loop-again t)
     (λ c κs. let p = c .before .before .before .before .pre .1 in (p .0, (p .1 .1 .1 .0, (p .1 .1 .1 .1 .0, in-fields t (c .before)))))
-    (parts-default-row-requires t)
-    (λ c. omega (arith, in-three t (c .before .before .before .before .before .before)))
-    (λ c. in-three t (c .before .before .before .before .before .before))
-    (λ c. omega (arith, in-three t (c .before .before .before .before .before .before)))
-    (λ c. omega (arith, c .before .before .before .before .before .before .loop-test .taken))
+    (λ c. omega (arith, field-six t c))
+    (λ c. omega (arith, field-six t c))
+    (λ c. field-six t c)
+    (λ c. let s = c .before .before .before .before .before .before in let l = c .before .before .before .before .loop in omega (arith, known-most (typesIn (s .args .forms)) (l .rows) (l .count) (l .drawn) (c .before .sort .result) (l .inv .1 .store), parted-room _ _ _ _ _ _ _ _ _ _ _ _ (l .inv .1) 0 (s .pre .1 .1 .1 .0) .few))
+    (λ c. c .if2 .taken)
+    (λ c. omega (arith, in-three t (c .before .before .before .before)))
+    (λ c. in-three t (c .before .before .before .before))
+    (λ c. omega (arith, in-three t (c .before .before .before .before)))
+    (λ c. omega (arith, c .before .before .before .before .loop-test .taken))
     (parts-loop-again-2 t)
+    (parts-default-row-requires t)
+    (λ c. omega (arith, in-three t (c .before .before .before .before .before .before .before .before)))
+    (λ c. in-three t (c .before .before .before .before .before .before .before .before))
+    (λ c. omega (arith, in-three t (c .before .before .before .before .before .before .before .before)))
+    (λ c. omega (arith, c .before .before .before .before .before .before .before .before .loop-test .taken))
+    (parts-loop-again-3 t)
     (λ c. c .before .loop .inv .1 .grown .long)
     (parts-returns t)
