@@ -1,5 +1,6 @@
 // The desk's one call: a guard file, a budget and two lent buffers to an answer. `specs/Decides.antt` says what it gives.
 use guard::Answer;
+use problem::Problem;
 use reader::Tables;
 use search::Outcome;
 ghost use mathlib.Core.Path.{_≡_};
@@ -7,6 +8,7 @@ ghost use Prim.Native.Nat.{_≤_};
 ghost use lib.IntN.{pos};
 ghost use lib.ListN.{length, replicate};
 ghost use Rattle.guard.specs.Limits.{base};
+ghost use Rattle.problem.specs.Columns.{problemBy};
 ghost use Rattle.classes.specs.Held.{Held, state};
 ghost use Rattle.search.specs.Nodes.{GuardsTables};
 ghost use Rattle.messages.specs.Messages.{OpenTables};
@@ -36,6 +38,7 @@ fn clear_both(rows: &mut [i32], places: &mut [i32])
 // row and the last place is cleared.
 fn answer_open(
     tables: Tables,
+    problem: Problem,
     classes: &[u8; 96],
     labels: &[u16; 96],
     nodes: u32,
@@ -43,12 +46,13 @@ fn answer_open(
     places: &mut [i32],
 ) -> Answer
     requires { ⌜ OpenTables tables (state (now classes) (now labels)) ⌝ }
+    requires { ⌜ problem ≡ problemBy tables ⌝ }
     requires { ⌜ Held (now classes) ⌝ }
     requires { ⌜ 16384 ≤ length (now rows) ⌝ }
     requires { ⌜ 24 ≤ length (now places) ⌝ }
     ensures { λ r. ⌜ AnswersOpen tables (state (now (classes .entry)) (now (labels .entry))) nodes (now (rows .entry)) (now (places .entry)) r (now (rows .exit)) (now (places .exit)) ⌝ }
 {
-    let n = messages::draw(tables, classes, labels, rows, places);
+    let n = messages::draw(tables, problem, classes, labels, rows, places);
     let last = 4 * n;
     clear(&mut rows[last..]);
     let table = tables.rows;
@@ -58,19 +62,28 @@ fn answer_open(
     Answer::Sat { nodes, rows: many }
 }
 
-// The answer to the tables of a guard.
+// The answer to the tables of a guard, with the problem made once.
 fn answer_search(tables: Tables, budget: u32, rows: &mut [i32], places: &mut [i32]) -> Answer
     requires { ⌜ GuardsTables tables ⌝ }
     requires { ⌜ 16384 ≤ length (now rows) ⌝ }
     requires { ⌜ 24 ≤ length (now places) ⌝ }
     ensures { λ r. ⌜ AnswersTables tables budget (now (rows .entry)) (now (places .entry)) r (now (rows .exit)) (now (places .exit)) ⌝ }
 {
+    let problem = problem::problem_of(tables);
     let mut classes = [0u8; 96];
     let mut labels = [0u16; 96];
-    let o = search::search(tables, budget, &mut classes, &mut labels);
+    let o = search::search(tables, problem, budget, &mut classes, &mut labels);
     match o {
         Outcome::Open(left) => {
-            answer_open(tables, &classes, &labels, budget - left, rows, places)
+            answer_open(
+                tables,
+                problem,
+                &classes,
+                &labels,
+                budget - left,
+                rows,
+                places,
+            )
         }
         Outcome::Closed(left) => {
             let nodes = budget - left;

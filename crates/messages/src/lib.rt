@@ -3,9 +3,12 @@
 use growthrows::Forms;
 use growthtables::growth_of;
 use leaf::Leaf;
+use problem::Problem;
 use reader::Tables;
+ghost use mathlib.Core.Path.{_≡_};
 ghost use Prim.Native.Nat.{_≤_, _<_};
 ghost use lib.ListN.{length};
+ghost use Rattle.problem.specs.Columns.{problemBy};
 ghost use Rattle.classes.specs.Held.{Held, state};
 ghost use Rattle.search.specs.Nodes.{GuardsTables};
 ghost use Rattle.growthrows.specs.Forms.{FormsFit, typesIn};
@@ -16,12 +19,12 @@ ghost use Rattle.messages.specs.Messages.{DrawsFor, OpenTables};
 ghost use Rattle.messages.specs.Rows.{Drawable, LeafFor, PlacesSet, RowsDrawn};
 
 // What the messages are drawn from.
-fn leaf_of(tables: Tables, classes: &[u8; 96], labels: &[u16; 96]) -> Leaf
+fn leaf_of(tables: Tables, problem: Problem, classes: &[u8; 96], labels: &[u16; 96]) -> Leaf
     requires { ⌜ GuardsTables tables ⌝ }
+    requires { ⌜ problem ≡ problemBy tables ⌝ }
     requires { ⌜ Held (now classes) ⌝ }
     ensures { λ r. ⌜ LeafFor tables (state (now (classes .entry)) (now (labels .entry))) r ⌝ }
 {
-    let problem = problem::problem_of(tables);
     let shapes = problem.shapes;
     let sorts = problem.sorts;
     let fieldless = problem.fieldless;
@@ -83,18 +86,20 @@ fn set_places(classes: &[u8; 96], at: &[u16; 96], many: usize, places: &mut [i32
 // row and the last place stays.
 pub fn draw(
     tables: Tables,
+    problem: Problem,
     classes: &[u8; 96],
     labels: &[u16; 96],
     rows: &mut [i32],
     places: &mut [i32],
 ) -> usize
     requires { ⌜ OpenTables tables (state (now classes) (now labels)) ⌝ }
+    requires { ⌜ problem ≡ problemBy tables ⌝ }
     requires { ⌜ Held (now classes) ⌝ }
     requires { ⌜ 16384 ≤ length (now rows) ⌝ }
     requires { ⌜ 24 ≤ length (now places) ⌝ }
     ensures { λ r. ⌜ DrawsFor tables (state (now (classes .entry)) (now (labels .entry))) (now (rows .entry)) (now (places .entry)) r (now (rows .exit)) (now (places .exit)) ⌝ }
 {
-    let leaf = leaf_of(tables, classes, labels);
+    let leaf = leaf_of(tables, problem, classes, labels);
     let table = tables.types;
     let defaults = tables.defaults;
     let growth = growth_of(table);

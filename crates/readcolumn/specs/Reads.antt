@@ -1,7 +1,7 @@
 -- What rows read, and the constants, place by place from the columns of a guard's tables; a number past the end of a
 -- column counts as 0. Assumes nothing: definitions.
 use mathlib.Core.Bool.{cond}
-use mathlib.Core.List.{List}
+use mathlib.Core.List.{List, [], _∷_}
 use Prim.Native.Nat.{ℕ, _+_, _*_, _-_, _/_, _%_}
 use lib.Dec.{eqb, ltb}
 use lib.ListN.{getD}
@@ -16,12 +16,19 @@ fieldKey t v p = 1 + 64 * t + 4 * v + p
 unfoldable pub readPlace : ℕ → ℕ → ℕ → ℕ → ℕ → ℕ → ℕ
 readPlace a t v p absent j = cond (eqb j 0) a (cond (eqb j 1) (fieldKey t v p) (cond (eqb j 2) (bitOf v) absent))
 
+-- its four places
+abbrev pub fourPlaces : ℕ → ℕ → ℕ → ℕ → ℕ → ℕ
+fourPlaces a key bit absent j = getD (a ∷ key ∷ bit ∷ absent ∷ []) j 0
+
+-- place j of row i, which is a field read
+abbrev pub rowRead : List ℕ → List ℕ → List ℕ → ℕ → ℕ → ℕ
+rowRead types variants parts i j =
+    let a = getD parts (3 * i) 0 in
+    readPlace a (getD types a 0) (getD variants i 0) (getD parts (3 * i + 1) 0) (defaultTerm (getD types i 0)) j
+
 -- four places to a row
 unfoldable pub readEntry : List ℕ → List ℕ → List ℕ → List ℕ → ℕ → ℕ
-readEntry kinds types variants parts x =
-    let i = x / 4 in
-    let a = getD parts (3 * i) 0 in
-    cond (eqb (getD kinds i 0) 3) (readPlace a (getD types a 0) (getD variants i 0) (getD parts (3 * i + 1) 0) (defaultTerm (getD types i 0)) (x % 4)) 0
+readEntry kinds types variants parts x = cond (eqb (getD kinds (x / 4) 0) 3) (rowRead types variants parts (x / 4) (x % 4)) 0
 
 -- the type of the constant in slot i, plus one: 24 rows, then the defaults of `count` types
 unfoldable pub constantEntry : ℕ → List ℕ → List ℕ → List ℕ → ℕ → ℕ

@@ -1,37 +1,43 @@
 // What each row reads, and which slots hold constants, from the columns of a guard's tables. `specs/Reads.antt` says what
 // each place is.
 ghost use mathlib.Core.Path.{_≡_};
-ghost use Prim.Native.Nat.{_<_};
-ghost use Rattle.readcolumn.specs.Reads.{constantEntry, readEntry, readPlace};
-ghost use Rattle.columns.specs.Entries.{filled};
+ghost use Prim.Native.Nat.{_+_, _*_, _≤_, _<_};
+ghost use Rattle.readcolumn.specs.Reads.{constantEntry, fourPlaces, readEntry, rowRead};
+ghost use Rattle.columns.specs.Entries.{filled, written};
 
-// Place `j` of a read.
-fn read_place(a: u16, t: u16, v: u16, p: u16, absent: u16, j: u16) -> u16
-    requires { ⌜ t < 256 ⌝ }
-    requires { ⌜ v < 256 ⌝ }
-    requires { ⌜ p < 256 ⌝ }
-    ensures { λ r. ⌜ r ≡ readPlace a t v p absent j ⌝ }
+// A read, in the four places from `at` on.
+fn write_places(column: &mut [u16; 96], at: usize, a: u16, key: u16, bit: u16, absent: u16)
+    requires { ⌜ at + 4 ≤ 96 ⌝ }
+    ensures { λ _. ⌜ now (column .exit) ≡ written 4 (now (column .entry)) at (fourPlaces a key bit absent) ⌝ }
 {
-    let last = columns::choose(j == 2, columns::bit_of(v), absent);
-    let key = columns::choose(j == 1, 1 + 64 * t + 4 * v + p, last);
-    columns::choose(j == 0, a, key)
+    column[at] = a;
+    column[at + 1] = key;
+    column[at + 2] = bit;
+    column[at + 3] = absent;
 }
 
-fn read_entry(kinds: &[u8], types: &[u8], variants: &[u8], parts: &[u8], x: u16) -> u16
-    requires { ⌜ x < 96 ⌝ }
-    ensures { λ r. ⌜ r ≡ readEntry (now (kinds .entry)) (now (types .entry)) (now (variants .entry)) (now (parts .entry)) x ⌝ }
+// What row `i`, a field read, reads.
+fn write_read(column: &mut [u16; 96], types: &[u8], variants: &[u8], parts: &[u8], i: u16)
+    requires { ⌜ i < 24 ⌝ }
+    ensures { λ _. ⌜ now (column .exit) ≡ written 4 (now (column .entry)) (4 * i) (rowRead (now (types .entry)) (now (variants .entry)) (now (parts .entry)) i) ⌝ }
 {
-    let i = x / 4;
     let a = columns::byte(parts, 3 * i);
     let t = columns::byte(types, a);
     let v = columns::byte(variants, i);
     let p = columns::byte(parts, 3 * i + 1);
     let own = columns::byte(types, i);
-    let place = read_place(a, t, v, p, 72 + own, x % 4);
-    let kind = columns::byte(kinds, i);
-    columns::choose(kind == 3, place, 0)
+    let bit = columns::bit_of(v);
+    write_places(
+        column,
+        4 * i as usize,
+        a,
+        1 + 64 * t + 4 * v + p,
+        bit,
+        72 + own,
+    );
 }
 
+// Only field reads are written.
 pub fn read_entries(
     kinds: &[u8; 24],
     types: &[u8; 24],
@@ -41,10 +47,12 @@ pub fn read_entries(
     ensures { λ r. ⌜ r ≡ filled 96 (readEntry (now (kinds .entry)) (now (types .entry)) (now (variants .entry)) (now (parts .entry))) 96 ⌝ }
 {
     let mut column = [0u16; 96];
-    let mut x: u16 = 0;
-    while x < 96 {
-        column[x as usize] = read_entry(kinds, types, variants, parts, x);
-        x += 1;
+    let mut i: u16 = 0;
+    while i < 24 {
+        if columns::byte(kinds, i) == 3 {
+            write_read(&mut column, types, variants, parts, i);
+        }
+        i += 1;
     }
     column
 }
@@ -52,14 +60,15 @@ pub fn read_entries(
 fn constant_entry(count: usize, kinds: &[u8], types: &[u8], counts: &[u8], i: u16) -> u8
     ensures { λ r. ⌜ r ≡ constantEntry count (now (kinds .entry)) (now (types .entry)) (now (counts .entry)) i ⌝ }
 {
-    let kind = columns::byte(kinds, i);
-    let sort = columns::byte(types, i);
-    let row = columns::plus_one_if(kind == 1, sort);
-    let t = columns::minus(i, 24);
+    if i < 24 {
+        let kind = columns::byte(kinds, i);
+        let sort = columns::byte(types, i);
+        return columns::plus_one_if(kind == 1, sort);
+    }
+    let t = i - 24;
     let number = columns::plus_one_if((t as usize) < count, t);
     let many = columns::byte(counts, t);
-    let default = columns::choose_byte(many == 0, number, 0);
-    columns::choose_byte(i < 24, row, default)
+    columns::choose_byte(many == 0, number, 0)
 }
 
 pub fn constant_entries(

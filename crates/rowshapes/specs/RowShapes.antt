@@ -1,7 +1,7 @@
 -- The shape of a row, place by place from the columns of a guard's tables; a number past the end of a column counts as 0.
 -- Assumes nothing: definitions.
 use mathlib.Core.Bool.{cond}
-use mathlib.Core.List.{List}
+use mathlib.Core.List.{List, [], _∷_}
 use Prim.Native.Nat.{ℕ, _+_, _*_, _-_}
 use lib.Dec.{eqb, ltb}
 use lib.ListN.{getD}
@@ -16,6 +16,10 @@ kindNumber t v = 1 + 16 * t + v
 unfoldable pub shapePlace : ℕ → ℕ → ℕ → ℕ → ℕ → ℕ → ℕ → ℕ
 shapePlace owner t v others many part j =
     cond (eqb j 0) owner (cond (eqb j 1) (kindNumber t v) (cond (eqb j 2) others (cond (eqb j 3) many part)))
+
+-- its eight places
+abbrev pub eightPlaces : ℕ → ℕ → ℕ → ℕ → ℕ → ℕ → ℕ → ℕ → ℕ → ℕ
+eightPlaces owner kind others many a b c d j = getD (owner ∷ kind ∷ others ∷ many ∷ a ∷ b ∷ c ∷ d ∷ []) j 0
 
 -- from a column with three places to a row: what stands in place j of the shape of row i, from place 4 on
 unfoldable pub partPlace : List ℕ → ℕ → ℕ → ℕ

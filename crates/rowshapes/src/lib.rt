@@ -1,18 +1,35 @@
-// The shape of each row, place by place, from the columns of a guard's tables. `specs/RowShapes.antt` says what each place is.
+// The shape of each row, eight places at once, from the columns of a guard's tables. `specs/RowShapes.antt` says what each
+// place is.
 ghost use mathlib.Core.Path.{_≡_};
-ghost use Prim.Native.Nat.{_<_};
-ghost use Rattle.rowshapes.specs.RowShapes.{arityOf, othersOf, ownerOf, partPlace, rowPart, rowPlace, shapePlace};
+ghost use Prim.Native.Nat.{_+_, _*_, _≤_, _<_};
+ghost use lib.ListN.{getD};
+ghost use Rattle.columns.specs.Entries.{written};
+ghost use Rattle.rowshapes.specs.RowShapes.{arityOf, eightPlaces, othersOf, ownerOf, partPlace, rowPart, rowPlace};
 
-// Place `j` of a shape; from place 4 on `part` stands there.
-pub fn shape_place(owner: u16, t: u16, v: u16, others: u16, many: u16, part: u16, j: u16) -> u16
-    requires { ⌜ t < 256 ⌝ }
-    requires { ⌜ v < 256 ⌝ }
-    ensures { λ r. ⌜ r ≡ shapePlace owner t v others many part j ⌝ }
+// A shape, in the eight places from `at` on.
+pub fn write_shape(
+    column: &mut [u16; 256],
+    at: usize,
+    owner: u16,
+    kind: u16,
+    others: u16,
+    many: u16,
+    a: u16,
+    b: u16,
+    c: u16,
+    d: u16,
+)
+    requires { ⌜ at + 8 ≤ 256 ⌝ }
+    ensures { λ _. ⌜ now (column .exit) ≡ written 8 (now (column .entry)) at (eightPlaces owner kind others many a b c d) ⌝ }
 {
-    let last = columns::choose(j == 3, many, part);
-    let later = columns::choose(j == 2, others, last);
-    let kind = columns::choose(j == 1, 1 + 16 * t + v, later);
-    columns::choose(j == 0, owner, kind)
+    column[at] = owner;
+    column[at + 1] = kind;
+    column[at + 2] = others;
+    column[at + 3] = many;
+    column[at + 4] = a;
+    column[at + 5] = b;
+    column[at + 6] = c;
+    column[at + 7] = d;
 }
 
 // From a column with three places to a row: what stands in place `j` of the shape of row `i`, from place 4 on.
@@ -62,8 +79,9 @@ fn row_part(kind: u16, parts: &[u8], fields: &[u8], i: u16, j: u16) -> u16
     columns::choose(kind == 3, field, part)
 }
 
-// Place `j` of the shape of row `i`.
-pub fn row_place(
+// The shape of row `i`, a built one or a field read, in its eight places.
+pub fn write_row(
+    column: &mut [u16; 256],
     kinds: &[u8],
     types: &[u8],
     variants: &[u8],
@@ -72,11 +90,10 @@ pub fn row_place(
     first: &[u8],
     arities: &[u8],
     i: u16,
-    j: u16,
-) -> u16
-    requires { ⌜ i < 32 ⌝ }
-    requires { ⌜ j < 8 ⌝ }
-    ensures { λ r. ⌜ r ≡ rowPlace (now (kinds .entry)) (now (types .entry)) (now (variants .entry)) (now (parts .entry)) (now (fields .entry)) (now (first .entry)) (now (arities .entry)) i j ⌝ }
+)
+    requires { ⌜ i < 24 ⌝ }
+    requires { ⌜ 2 ≤ getD (now kinds) i 0 ⌝ }
+    ensures { λ _. ⌜ now (column .exit) ≡ written 8 (now (column .entry)) (8 * i) (rowPlace (now (kinds .entry)) (now (types .entry)) (now (variants .entry)) (now (parts .entry)) (now (fields .entry)) (now (first .entry)) (now (arities .entry)) i) ⌝ }
 {
     let kind = columns::byte(kinds, i);
     let owner = owner_of(kind, parts, i);
@@ -84,7 +101,19 @@ pub fn row_place(
     let v = columns::byte(variants, i);
     let others = others_of(kind, v);
     let many = arity_of(first, arities, t, v);
-    let part = row_part(kind, parts, fields, i, j);
-    let place = shape_place(owner, t, v, others, many, part, j);
-    columns::choose(kind < 2, 0, place)
+    let a = row_part(kind, parts, fields, i, 4);
+    let b = row_part(kind, parts, fields, i, 5);
+    let c = row_part(kind, parts, fields, i, 6);
+    write_shape(
+        column,
+        8 * i as usize,
+        owner,
+        1 + 16 * t + v,
+        others,
+        many,
+        a,
+        b,
+        c,
+        0,
+    );
 }

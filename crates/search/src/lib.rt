@@ -1,7 +1,9 @@
 // The search over decisions, depth first, with a budget of nodes. `specs/` says what it gives.
+use problem::Problem;
 use reader::Tables;
 ghost use mathlib.Core.Path.{_≡_};
 ghost use Prim.Native.Nat.{_<_};
+ghost use Rattle.problem.specs.Columns.{problemBy};
 ghost use Rattle.classes.specs.Held.{Held, state};
 ghost use Rattle.search.specs.Outcome.{isClosedOutcome, isOpenOutcome, leftOf};
 ghost use Rattle.search.specs.Nodes.{ArraysFit, ClearedUnlessOpen, Finds, GuardsTables, Searches, StateFit};
@@ -133,26 +135,27 @@ fn visit(
     )
 }
 
-// The search of an accepted guard, whatever the arrays held. They come back with the classes and the labels of the open
+// The search of an accepted guard with its problem, whatever the arrays held. They come back with the classes and the labels of the open
 // node, where one was found, and all zero otherwise.
 pub fn search(
     tables: Tables,
+    problem: Problem,
     budget: u32,
     classes: &mut [u8; 96],
     labels: &mut [u16; 96],
 ) -> Outcome
     requires { ⌜ GuardsTables tables ⌝ }
+    requires { ⌜ problem ≡ problemBy tables ⌝ }
     ensures { λ r. ⌜ Finds tables budget r (now (classes .exit)) (now (labels .exit)) ⌝ }
     ensures { λ r. ⌜ ClearedUnlessOpen r (now (classes .exit)) (now (labels .exit)) ⌝ }
     ensures { λ r. ⌜ Held (now (classes .exit)) ⌝ }
 {
-    let p = problem::problem_of(tables);
-    let shapes = p.shapes;
-    let reads = p.reads;
-    let sorts = p.sorts;
-    let full = p.full;
-    let fieldless = p.fieldless;
-    let constants = p.constants;
+    let shapes = problem.shapes;
+    let reads = problem.reads;
+    let sorts = problem.sorts;
+    let full = problem.full;
+    let fieldless = problem.fieldless;
+    let constants = problem.constants;
     let rows = tables.rows;
     let values = rows.values;
     let literals = tables.literals;

@@ -36,9 +36,10 @@ fn answer(file: &[u8], budget: u32) {
         print_refused(t.refused);
         return;
     }
+    let problem = problem::problem_of(t);
     let mut classes = [0u8; 96];
     let mut labels = [0u16; 96];
-    let o = search::search(t, budget, &mut classes, &mut labels);
+    let o = search::search(t, problem, budget, &mut classes, &mut labels);
     print_outcome(budget, o);
 }
 

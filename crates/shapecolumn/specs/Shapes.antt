@@ -13,11 +13,14 @@ unfoldable pub defaultPart : List ℕ → List ℕ → List ℕ → ℕ → ℕ 
 defaultPart first arities sorts t v j =
     cond (ltb (j - 4) (arityOf first arities t v)) (defaultTerm (getD sorts (3 * (getD first t 0 + v) + (j - 4)) 0)) 0
 
--- place j of the shape of the default of type t
-unfoldable pub defaultPlace : List ℕ → List ℕ → List ℕ → List ℕ → List ℕ → ℕ → ℕ → ℕ
-defaultPlace counts defaults first arities sorts t j =
+-- place j of the shape of the default of type t: of one that is made, and of any
+abbrev pub madePlace : List ℕ → List ℕ → List ℕ → List ℕ → ℕ → ℕ → ℕ
+madePlace defaults first arities sorts t j =
     let v = getD defaults t 0 in
-    cond (eqb (getD counts t 0) 0) 0 (shapePlace (defaultTerm t) t v 0 (arityOf first arities t v) (defaultPart first arities sorts t v j) j)
+    shapePlace (defaultTerm t) t v 0 (arityOf first arities t v) (defaultPart first arities sorts t v j) j
+
+unfoldable pub defaultPlace : List ℕ → List ℕ → List ℕ → List ℕ → List ℕ → ℕ → ℕ → ℕ
+defaultPlace counts defaults first arities sorts t j = cond (eqb (getD counts t 0) 0) 0 (madePlace defaults first arities sorts t j)
 
 -- eight places to a slot: 24 rows, then the defaults
 unfoldable pub shapeEntry : List ℕ → List ℕ → List ℕ → List ℕ → List ℕ → List ℕ → List ℕ → List ℕ → List ℕ → List ℕ → ℕ → ℕ

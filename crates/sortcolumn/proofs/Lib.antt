@@ -1,1 +1,2 @@
 mod MaskLaws
+pub mod SortLaws

@@ -5,25 +5,24 @@ ghost use Prim.Native.Nat.{_≤_, _<_};
 ghost use Rattle.sortcolumn.specs.Sorts.{fieldlessBit, fieldlessEntry, fieldlessMask, fullEntry, sortEntry};
 ghost use Rattle.columns.specs.Entries.{filled};
 
-fn sort_entry(many: usize, count: usize, types: &[u8], siblings: &[u8], x: u16) -> u8
-    ensures { λ r. ⌜ r ≡ sortEntry many count (now (types .entry)) (now (siblings .entry)) x ⌝ }
-{
-    let sort = columns::byte(types, x);
-    let row = columns::plus_one_if((x as usize) < many, sort);
-    let sibling = columns::at(siblings, columns::minus(x, 24));
-    let t = columns::minus(x, 72);
-    let default = columns::plus_one_if((t as usize) < count, t);
-    let later = columns::choose_byte(x < 72, sibling, default);
-    columns::choose_byte(x < 24, row, later)
-}
-
+// Rows, siblings, defaults; nothing stands past the last default.
 pub fn sort_entries(many: usize, count: usize, types: &[u8; 24], siblings: &[u8; 48]) -> [u8; 96]
     ensures { λ r. ⌜ r ≡ filled 96 (sortEntry many count (now (types .entry)) (now (siblings .entry))) 96 ⌝ }
 {
     let mut column = [0u8; 96];
     let mut x: u16 = 0;
-    while x < 96 {
-        column[x as usize] = sort_entry(many, count, types, siblings, x);
+    while x < 24 {
+        let sort = columns::byte(types, x);
+        column[x as usize] = columns::plus_one_if((x as usize) < many, sort);
+        x += 1;
+    }
+    while x < 72 {
+        column[x as usize] = columns::at(siblings, x - 24);
+        x += 1;
+    }
+    while x < 78 {
+        let t = x - 72;
+        column[x as usize] = columns::plus_one_if((t as usize) < count, t);
         x += 1;
     }
     column

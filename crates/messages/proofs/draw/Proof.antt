@@ -28,21 +28,21 @@ draw-rows-requires c κs =
     let s = c .before .before .before .before .before .before in
     let a = s .args in
     let t = s .pre .0 in
-    let held = s .pre .1 .0 in
+    let held = s .pre .1 .1 .0 in
     let l = c .before .before .before .before .before .leaf-of in
     let is = l .ensures (t .guard) (t .accepted) (t .is) in
     let st = state (a .classes .now) (a .labels .now) in
     let small = labels-small (a .classes .now) (a .labels .now) (l .result .labels) (is .labels) (fits-here (c .before .before .before .before .before)) in
     let gr = c .before .before .growth-of in
     let same = types-same (a .tables) (t .guard) (t .accepted) (t .is) (gr .result) (gr .ensures) in
-    (leaf-fits (t .guard) (t .accepted) st (t .leaf) held small (l .result) is, (forms-fit (a .tables) (t .guard) (t .accepted) (t .is) (gr .result) (gr .ensures), (free-fits (t .guard) (t .accepted) st (t .leaf) held small (l .result) is _ same, (leaf-drawable (t .guard) (t .accepted) st (t .leaf) held small (l .result) is _ same, (blank-zeros, s .pre .1 .1 .0)))))
+    (leaf-fits (t .guard) (t .accepted) st (t .leaf) held small (l .result) is, (forms-fit (a .tables) (t .guard) (t .accepted) (t .is) (gr .result) (gr .ensures), (free-fits (t .guard) (t .accepted) st (t .leaf) held small (l .result) is _ same, (leaf-drawable (t .guard) (t .accepted) st (t .leaf) held small (l .result) is _ same, (blank-zeros, s .pre .1 .1 .1 .0)))))
 
 set-places-requires : tie.Need-set-places-requires
 set-places-requires c κs =
     let s = c .before .before .before .before .before .before .before .before .before .before .before in
     let a = s .args in
     let t = s .pre .0 in
-    let held = s .pre .1 .0 in
+    let held = s .pre .1 .1 .0 in
     let l = c .before .before .before .before .before .before .before .before .before .before .leaf-of in
     let is = l .ensures (t .guard) (t .accepted) (t .is) in
     let st = state (a .classes .now) (a .labels .now) in
@@ -50,7 +50,7 @@ set-places-requires c κs =
     let gr = c .before .before .before .before .before .before .before .growth-of in
     let same = types-same (a .tables) (t .guard) (t .accepted) (t .is) (gr .result) (gr .ensures) in
     let d = c .before .before .before .before .draw-rows in
-    (held, (rows-low (t .guard) (t .accepted) st (t .leaf) held small (l .result) is _ same (a .rows .now) (d .last .1 .1 .0) (d .last .1 .1 .1 .0) (d .result) (d .ensures), (few-terms (a .tables) (t .guard) (t .accepted) (t .is), s .pre .1 .1 .1)))
+    (held, (rows-low (t .guard) (t .accepted) st (t .leaf) held small (l .result) is _ same (a .rows .now) (d .last .1 .1 .0) (d .last .1 .1 .1 .0) (d .result) (d .ensures), (few-terms (a .tables) (t .guard) (t .accepted) (t .is), s .pre .1 .1 .1 .1)))
 
 same-length : tie.Need-same-length
 same-length c = search needs
@@ -64,7 +64,7 @@ returns c =
     λ g ok is open′.
     let s = c .before .before .before .before .before .before .before .before .before .before .before .before .before in
     let a = s .args in
-    let held = s .pre .1 .0 in
+    let held = s .pre .1 .1 .0 in
     let l = c .before .before .before .before .before .before .before .before .before .before .before .before .leaf-of in
     let leafIs = l .ensures g ok is in
     let st = state (a .classes .now) (a .labels .now) in
