@@ -6,9 +6,9 @@
  *
  *   - It allocates nothing, keeps nothing between calls and calls nothing but memcpy and memset. Calls in several
  *     threads at once are fine, each with its own buffers.
- *   - It always ends. The budget bounds the time: no more nodes than that are searched. At the limits a node was measured
- *     at 2 microseconds (docs/BENCHMARKS.md).
- *   - It needs 820 KB of stack (811,256 bytes at the most, as docs/EMBEDDING.md counts them).
+ *   - It always ends. The budget bounds the time: no more nodes than that are searched. At the limits of a guard a node was
+ *     measured at 1 to 1.4 microseconds (docs/BENCHMARKS.md).
+ *   - It needs 820 KB of stack (812,280 bytes at the most, as docs/EMBEDDING.md counts them).
  */
 #ifndef GUARDDESK_H
 #define GUARDDESK_H
