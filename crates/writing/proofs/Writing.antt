@@ -2,20 +2,31 @@
 -- from one on, so one law says what its next turn adds. Assumes nothing.
 use mathlib.Core.Path.{_≡_, refl, ap, sym, _∙_, subst}
 use mathlib.Core.List.{List, [], _∷_, _++_, append-assoc, append-nil}
-use Prim.Native.Nat.{ℕ, zero, suc, _+_, _*_, _≤_}
+use Prim.Native.Nat.{ℕ, zero, suc, _+_, _-_, _*_, _≤_}
 use native.Mathlib.Omega.{arith}
 use lib.ListN.{length, take, drop, length-append, length-drop}
-use lib.Seq.{length-paste-head, length-take-le, paste, take-all, take-at}
+use lib.Seq.{drop-at, drop-nil, length-paste-head, paste, take-all, take-at}
 use Rattle.laws.specs.Lists.{concatMap, from}
 use Rattle.writing.specs.Written.{Written}
 
+drop-on : (i k : ℕ) (xs : List ℕ) → drop (i + k) xs ≡ drop k (drop i xs)
+drop-on zero k xs = let e : 0 + k ≡ k = omega arith in ap (λ (n : ℕ). drop n xs) e
+drop-on (suc i) k [] = drop-nil (suc i + k) ∙ sym (drop-nil k)
+drop-on (suc i) k (x ∷ xs) = let e : suc i + k ≡ suc (i + k) = omega arith in ap (λ (n : ℕ). drop n (x ∷ xs)) e ∙ drop-on i k xs
+
+-- buffers that are the same from one place on are so from a later one on
+same-later : (i j : ℕ) (xs ys : List ℕ) → i ≤ j → drop i xs ≡ drop i ys → drop j xs ≡ drop j ys
+same-later i j xs ys h e =
+    let k : j ≡ i + (j - i) = omega arith in
+    ap (λ (n : ℕ). drop n xs) k ∙ drop-on i (j - i) xs ∙ ap (drop (j - i)) e ∙ sym (drop-on i (j - i) ys) ∙ sym (ap (λ (n : ℕ). drop n ys) k)
+
 module _ {out : List ℕ} {at : ℕ} where
   pub nothing : at ≤ length out → Written 0 out at [] out at
-  nothing h = record { long = refl; few = omega arith; ends = omega arith; front = sym (append-nil (take at out)) }
+  nothing h = record { long = refl; few = omega arith; ends = omega arith; front = sym (append-nil (take at out)); rest = refl }
 
   module _ {most : ℕ} {text out′ : List ℕ} {end : ℕ} where
     pub more-room : (more : ℕ) → most ≤ more → Written most out at text out′ end → Written more out at text out′ end
-    more-room more h w = record { long = w .long; few = omega (arith, w .few); ends = w .ends; front = w .front }
+    more-room more h w = record { long = w .long; few = omega (arith, w .few); ends = w .ends; front = w .front; rest = w .rest }
 
     pub same-text : {text′ : List ℕ} → text ≡ text′ → Written most out at text out′ end → Written most out at text′ out′ end
     same-text e w = subst (λ (t : List ℕ). Written most out at t out′ end) e w
@@ -28,6 +39,7 @@ module _ {out : List ℕ} {at : ℕ} where
           few = omega (arith, w .few, v .few, length-append text text′);
           ends = omega (arith, w .ends, v .ends, length-append text text′);
           front = v .front ∙ ap (λ (l : List ℕ). l ++ text′) (w .front) ∙ append-assoc (take at out) text text′;
+          rest = v .rest ∙ same-later end end′ out′ out (omega (arith, v .ends)) (w .rest);
         }
 
 -- a copy
@@ -39,6 +51,7 @@ pasted out at text h =
       few = omega arith;
       ends = refl;
       front = take-at head rest (at + length text) headLength ∙ ap (λ (l : List ℕ). take at out ++ l) (take-all (length text) text (omega arith));
+      rest = drop-at head rest (at + length text) headLength;
     }
   where
     head : List ℕ
