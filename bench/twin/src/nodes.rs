@@ -1,7 +1,7 @@
 //! The reasons to close a node and its split, as in the crates `reasons`, `levels`, `nodes` and `splits`.
 
 use crate::guard::{Label, Line, Term};
-use crate::problem::{Problem, PLACES, TERMS};
+use crate::problem::{Problem, PLACES};
 use crate::saturation::is_active;
 use crate::state::State;
 
@@ -13,8 +13,9 @@ pub fn is_closed(problem: &Problem, state: &State) -> bool {
         || has_cycle(problem, state)
 }
 
-fn has_empty_label(problem: &Problem, state: &State) -> bool {
-    (0..TERMS as Term).any(|term| state.label(term) == 0 && problem.full(term) != 0)
+pub fn has_empty_label(problem: &Problem, state: &State) -> bool {
+    let mut labelled = problem.labelled().iter();
+    labelled.any(|&term| state.label(term) == 0)
 }
 
 fn has_broken_line(problem: &Problem, state: &State) -> bool {
@@ -84,7 +85,8 @@ fn first_kind(problem: &Problem, state: &State) -> Option<Decision> {
 
 /// The lowest term whose label holds two or more variants, all fieldless; its lowest one.
 fn second_kind(problem: &Problem, state: &State) -> Option<Decision> {
-    let splits = (0..TERMS as Term).find(|&term| {
+    let mut labelled = problem.labelled().iter().copied();
+    let splits = labelled.find(|&term| {
         let label = state.label(term);
         label & problem.fieldless(term) == label && label.count_ones() >= 2
     });

@@ -52,6 +52,8 @@ pub struct Problem<'g> {
     fieldless: [Label; 8],
     pub constants: [Constant; SLOTS],
     pub lines: &'g [Line],
+    /// The terms of variant type, in rising order, and how many there are.
+    labelled: ([Term; PLACES], usize),
 }
 
 impl<'g> Problem<'g> {
@@ -64,12 +66,20 @@ impl<'g> Problem<'g> {
             fieldless: [0; 8],
             constants: Default::default(),
             lines: &guard.lines,
+            labelled: ([0; PLACES], 0),
         };
         for row in 0..guard.rows.len() {
             problem.add_row(guard, row as Term);
         }
         for ty in 0..guard.types.len() {
             problem.add_type(guard, ty as u8);
+        }
+        for term in 0..TERMS as Term {
+            if problem.full(term) != 0 {
+                let (terms, many) = &mut problem.labelled;
+                terms[*many] = term;
+                *many += 1;
+            }
         }
         problem
     }
@@ -133,6 +143,11 @@ impl<'g> Problem<'g> {
             parts.push(DEFAULTS + field);
         }
         self.shapes[slot] = shape(term, t, variant, 0, parts);
+    }
+
+    /// The terms that have a label.
+    pub fn labelled(&self) -> &[Term] {
+        &self.labelled.0[..self.labelled.1]
     }
 
     /// The fieldless variants of a term's type.

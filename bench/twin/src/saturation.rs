@@ -1,15 +1,17 @@
 //! The closure of a node: the passes of the crates `reads`, `singles` and `keys`, in the order of `saturation`.
 
 use crate::guard::Term;
-use crate::problem::{Problem, Read, Shape, SLOTS, TERMS};
+use crate::nodes::has_empty_label;
+use crate::problem::{Problem, Read, Shape, SLOTS};
 use crate::state::State;
 
-/// Adds what the rules give until nothing is new.
+/// Adds what the rules give until nothing is new, or a label is empty.
 pub fn saturate(problem: &Problem, state: &mut State) {
-    while pass_defaults(problem, state)
-        || pass_singles(problem, state)
-        || pass_shapes(problem, state)
-        || pass_reads(problem, state)
+    while !has_empty_label(problem, state)
+        && (pass_defaults(problem, state)
+            || pass_singles(problem, state)
+            || pass_shapes(problem, state)
+            || pass_reads(problem, state))
     {}
 }
 
@@ -33,7 +35,7 @@ type Seen = [Term; 112];
 fn pass_singles(problem: &Problem, state: &mut State) -> bool {
     let mut seen: Seen = [NONE; 112];
     let mut changed = false;
-    for term in 0..TERMS as Term {
+    for &term in problem.labelled() {
         if problem.fieldless(term) == 0 {
             continue;
         }

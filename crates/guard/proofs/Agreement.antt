@@ -11,13 +11,13 @@ use native.Mathlib.Omega.{arith}
 use lib.Count.{ones}
 use lib.Dec.{leb, eqb}
 use lib.ListN.{length, getD, List·getD-eq-default}
-use borrow.Author.Tests.{leb-true, leb-false, eqb-true, eqb-false}
+use borrow.Author.Tests.{eq-eqb, leb-true, leb-false, eqb-true, eqb-false}
 use Rattle.laws.specs.All.{All}
 use Rattle.laws.specs.Bits.{bit}
 use Rattle.laws.specs.Lists.{all, any, concatMap, filter, find, from, member, sum, union, when}
 use Rattle.laws.proofs.Bits.{sub-le}
-use Rattle.laws.proofs.Bools.{by-test, cond-ind, either}
-use Rattle.laws.proofs.Lists.{all-mem, any-cong, concatMap-cong, find-cong, find-some, from-at, from-length, map-cong}
+use Rattle.laws.proofs.Bools.{and-both, and-left, and-right, by-test, cond-ind, either, or-left}
+use Rattle.laws.proofs.Lists.{all-mem, any-cong, any-of, any-some, concatMap-cong, find-cong, find-some, from-at, from-length, map-cong}
 use Rattle.laws.proofs.Stores.{ends}
 use Rattle.guard.specs.Closure.{Fact, Fact.same, Fact.within, SameAt, State, add, buildsAt, classOf, closureOf, consequences, eqZ, given, holds, labelOf, merge, mergeUnless, readBuild, sameClass}
 use Rattle.guard.specs.Guard.{Literal, Literal.equal, Literal.is, Literal.isnt, Literal.unequal}
@@ -105,27 +105,42 @@ class-le : (s s′ : State) → Named s → Named s′ → ((i j : ℕ) → i < 
     → (i : ℕ) → i < termCount → classOf s′ i ≤ classOf s i
 class-le s s′ n n′ more i hi = omega (arith, more (classOf s i) i (omega (arith, n .low i)) hi (n .own i), n′ .low (classOf s i))
 
-module _ (t : Table) (ls : List Literal) (ranged : InRange t) (literalsIn : LiteralsInRange ls) (room : ℕ) (enough : termCount ≤ room) (s : State)
-    (there : Reached t ls room s) (says : All (Says s) (given t ls)) (quiet : All (λ f. holds s f ≡ true) (consequences t s)) where
-  -- in whatever order facts are added, the end is one
-  pub reached-agrees : Agrees s (closureOf t ls)
+module _ (t : Table) (ls : List Literal) (ranged : InRange t) (literalsIn : LiteralsInRange ls) (room : ℕ) (enough : termCount ≤ room) (s : State) (there : Reached t ls room s) where
+  -- the closure's labels are no larger than those on the way to it
+  pub reached-label : (i : ℕ) → i < termCount → labelOf (closureOf t ls) i ≤ labelOf s i
   unfolding Small
-  reached-agrees =
-      record {
-        class = λ i hi. omega (
-          arith,
-          class-le s S (named-reached there) (named-closure t ls) (same-there t ls ranged literalsIn room enough s there says quiet) i hi,
-          class-le S s (named-closure t ls) (named-reached there) (same-here t ls ranged literalsIn room enough s there says quiet) i hi,
-        );
-        label = λ i hi. omega (
-          arith,
-          sub-le variantLimit (labelOf s i) (labelOf S i) (closure-small t ls i) (λ v hv e. lacks-there t ls ranged literalsIn room enough s there says quiet i v hi hv e),
-          sub-le variantLimit (labelOf S i) (labelOf s i) (reached-small there (classOf s i)) (λ v hv e. lacks-here t ls ranged literalsIn room enough s there says quiet i v hi hv e),
-        );
-      }
-    where
-      S : State
-      S = closureOf t ls
+  reached-label i hi = sub-le variantLimit (labelOf s i) (labelOf (closureOf t ls) i) (closure-small t ls i) (λ v hv e. lacks-there t ls ranged literalsIn room enough s there i v hi hv e)
+
+  -- so a label that is empty on the way closes the node
+  pub reached-empty : any (emptyLabel t s) (t .terms) ≡ true → isClosed t ls (closureOf t ls) ≡ true
+  unfolding isClosed
+  reached-empty e =
+      let (x, m, h) = any-some (emptyLabel t s) (t .terms) e in
+      let hasVariants : Bool = not (isNumber (t .types) (x .type)) in
+      let z : labelOf s (x .term) ≡ 0 = eqb-true _ _ (and-right hasVariants _ h) in
+      let none : labelOf (closureOf t ls) (x .term) ≡ 0 = omega (arith, z, reached-label (x .term) (ranged .terms x m .0)) in
+      or-left _ _ (any-of (emptyLabel t (closureOf t ls)) (t .terms) x m (and-both hasVariants _ (and-left hasVariants _ h) (eq-eqb _ _ none)))
+
+  module _ (says : All (Says s) (given t ls)) (quiet : All (λ f. holds s f ≡ true) (consequences t s)) where
+    -- in whatever order facts are added, the end is one
+    pub reached-agrees : Agrees s (closureOf t ls)
+    unfolding Small
+    reached-agrees =
+        record {
+          class = λ i hi. omega (
+            arith,
+            class-le s S (named-reached there) (named-closure t ls) (same-there t ls ranged literalsIn room enough s there) i hi,
+            class-le S s (named-closure t ls) (named-reached there) (same-here t ls ranged literalsIn room enough s there says quiet) i hi,
+          );
+          label = λ i hi. omega (
+            arith,
+            reached-label i hi,
+            sub-le variantLimit (labelOf S i) (labelOf s i) (reached-small there (classOf s i)) (λ v hv e. lacks-here t ls ranged literalsIn room enough s there says quiet i v hi hv e),
+          );
+        }
+      where
+        S : State
+        S = closureOf t ls
 
 -- ---- what is the same at states that agree
 

@@ -70,6 +70,21 @@ module _ (t : Table) (ls : List Literal) (ranged : InRange t) (literalsIn : Lite
     reached-sound (by-rules {s = s} r f m) =
         add-sound t ls ranged literalsIn Same Lacks o asserted s (reached-sound r) f (follows-valid s (reached-sound r) f m)
 
+  -- ---- what a state says that is reached, the computed closure says
+
+  module _ (s : State) (reached : Reached t ls room s) where
+    pub same-there : (i j : ℕ) → i < termCount → j < termCount → SameAt s i j → SameAt (closureOf t ls) i j
+    same-there i j hi hj e =
+        let c = closure-least t ls ranged literalsIn in
+        same-valid-at t ls ranged literalsIn (SameAt (closureOf t ls)) (LacksAt (closureOf t ls)) (c .rules) (c .literals) s
+        (reached-sound (SameAt (closureOf t ls)) (LacksAt (closureOf t ls)) (c .rules) (c .literals) reached) i j hi hj e
+
+    pub lacks-there : (i v : ℕ) → i < termCount → v < variantLimit → LacksAt s i v → LacksAt (closureOf t ls) i v
+    lacks-there i v hi hv e =
+        let c = closure-least t ls ranged literalsIn in
+        lacks-valid t ls ranged literalsIn (SameAt (closureOf t ls)) (LacksAt (closureOf t ls)) (c .rules) (c .literals) s
+        (reached-sound (SameAt (closureOf t ls)) (LacksAt (closureOf t ls)) (c .rules) (c .literals) reached) i v hi hv e
+
   -- ---- so a state that is reached, and where nothing is new, is the least closure
 
   module _ (s : State) (reached : Reached t ls room s) (says : All (Says s) (given t ls)) (quiet : All (λ f. holds s f ≡ true) (consequences t s)) where
@@ -82,19 +97,9 @@ module _ (t : Table) (ls : List Literal) (ranged : InRange t) (literalsIn : Lite
           leastLacks = λ Same Lacks o a i v hi hv e. lacks-valid t ls ranged literalsIn Same Lacks o a s (reached-sound Same Lacks o a reached) i v hi hv e;
         }
 
-    -- and says of terms and variants what the computed closure says
-    pub same-there : (i j : ℕ) → i < termCount → j < termCount → SameAt s i j → SameAt (closureOf t ls) i j
-    same-there i j hi hj e =
-        let c = closure-least t ls ranged literalsIn in
-        any-order .leastSame (SameAt (closureOf t ls)) (LacksAt (closureOf t ls)) (c .rules) (c .literals) i j hi hj e
-
+    -- and the computed closure says no more
     pub same-here : (i j : ℕ) → i < termCount → j < termCount → SameAt (closureOf t ls) i j → SameAt s i j
     same-here i j hi hj e = closure-least t ls ranged literalsIn .leastSame (SameAt s) (LacksAt s) (any-order .rules) (any-order .literals) i j hi hj e
-
-    pub lacks-there : (i v : ℕ) → i < termCount → v < variantLimit → LacksAt s i v → LacksAt (closureOf t ls) i v
-    lacks-there i v hi hv e =
-        let c = closure-least t ls ranged literalsIn in
-        any-order .leastLacks (SameAt (closureOf t ls)) (LacksAt (closureOf t ls)) (c .rules) (c .literals) i v hi hv e
 
     pub lacks-here : (i v : ℕ) → i < termCount → v < variantLimit → LacksAt (closureOf t ls) i v → LacksAt s i v
     lacks-here i v hi hv e = closure-least t ls ranged literalsIn .leastLacks (SameAt s) (LacksAt s) (any-order .rules) (any-order .literals) i v hi hv e

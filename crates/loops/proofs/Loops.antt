@@ -46,6 +46,11 @@ module _ (p : ℕ → Bool) where
       by-test (ltb (least p n) n) (λ b. absurd (false≢true (sym (h (least p n) (omega (arith, ltb-true (least p n) n b))) ∙ least-passes p n (ltb-true _ _ b))))
       (λ b. omega (arith, ltb-false (least p n) n b, least-most p n))
 
+  -- where nothing is found below n, what is found is n
+  pub lowest-none : (n : ℕ) → ltb (lowest p n) n ≡ false → lowest p n ≡ n
+  unfolding lowest
+  lowest-none n b = omega (arith, ltb-false (least p n) n b, least-most p n)
+
   pub any-here : (n k : ℕ) → k < n → p k ≡ true → true ≡ any p (from n 0)
   any-here n k l e = sym (any-of p (from n 0) k (mem-from n 0 k (omega arith) (omega arith)) e)
 

@@ -1,6 +1,6 @@
 -- A node is closed by the first reason that is found, or is not closed. Assumes nothing.
-use mathlib.Core.Path.{_≡_, ap, sym, _∙_}
-use mathlib.Core.Bool.{Bool, true, not, _||_}
+use mathlib.Core.Path.{_≡_, refl, ap, sym, _∙_}
+use mathlib.Core.Bool.{Bool, true, false, not, _||_}
 use mathlib.Core.List.{List}
 use Prim.Native.Nat.{ℕ, _≤_, _<_}
 use lib.Dec.{ltb}
@@ -8,6 +8,7 @@ use lib.IntN.{ℤ}
 use borrow.Author.Tests.{lt-ltb, le-ltb}
 use Rattle.guard.specs.Closure.{State}
 use Rattle.loops.specs.Lowest.{lowest}
+use Rattle.loops.proofs.Loops.{lowest-none}
 use Rattle.reasons.specs.Reasons.{brokenAt, emptyAt, unlikeAt}
 use Rattle.ranks.specs.Ranks.{rankingOf}
 use Rattle.nodes.specs.Closed.{closedBy}
@@ -40,3 +41,13 @@ module _ (shapes sorts full constants : List ℕ) (values : List ℤ) (kinds ter
       closed-cyclic h r e =
           e ∙ skipped c 96 _ (lowest (unlikeAt constants values (s .classes) 30) 96) isC h ∙ skipped j many _ (lowest (brokenAt kinds terms others (s .classes)) many) isJ whole
           ∙ skipped x 78 _ (lowest (emptyAt sorts full s) 78) isX held
+
+-- a node that isn't closed has no empty label
+pub none-empty : (shapes sorts full constants : List ℕ) (values : List ℤ) (kinds terms others : List ℕ) (many : ℕ) (s : State)
+    → closedBy shapes sorts full constants values kinds terms others many s ≡ false → lowest (emptyAt sorts full s) 78 ≡ 78
+unfolding closedBy
+none-empty shapes sorts full constants values kinds terms others many s e = lowest-none (emptyAt sorts full s) 78 (neither (ltb (lowest (emptyAt sorts full s) 78) 78) _ e)
+  where
+    neither : (a b : Bool) → (a || b) ≡ false → a ≡ false
+    neither true b e = e
+    neither false b e = refl

@@ -3,6 +3,7 @@ ghost use mathlib.Core.Path.{_≡_};
 ghost use Prim.Native.Nat.{_≤_};
 ghost use Rattle.classes.specs.Held.{Held, state};
 ghost use Rattle.slots.specs.Slots.{ShapesFit, SortsFit};
+ghost use Rattle.labelled.specs.Covers.{Covers, hasMask};
 ghost use Rattle.reasons.specs.Reasons.{LinesFit};
 ghost use Rattle.nodes.specs.Closed.{closedBy};
 use levels::is_cyclic;
@@ -17,6 +18,8 @@ pub fn is_closed(
     shapes: &[u16; 256],
     sorts: &[u8; 96],
     full: &[u16; 8],
+    labelled: &[u8; 96],
+    count: usize,
     constants: &[u8; 32],
     values: &[i32; 24],
     kinds: &[u8; 64],
@@ -27,11 +30,12 @@ pub fn is_closed(
     requires { ⌜ Held (now classes) ⌝ }
     requires { ⌜ ShapesFit (now shapes) ⌝ }
     requires { ⌜ SortsFit (now sorts) ⌝ }
+    requires { ⌜ Covers (hasMask (now sorts) (now full)) 78 (now labelled) count ⌝ }
     requires { ⌜ LinesFit (now terms) (now others) ⌝ }
     requires { ⌜ many ≤ 64 ⌝ }
     ensures { λ r. ⌜ r ≡ closedBy (now (shapes .entry)) (now (sorts .entry)) (now (full .entry)) (now (constants .entry)) (now (values .entry)) (now (kinds .entry)) (now (terms .entry)) (now (others .entry)) many (state (now (classes .entry)) (now (labels .entry))) ⌝ }
 {
-    if empty_label(classes, labels, sorts, full) < 78 {
+    if empty_label(classes, labels, sorts, full, labelled, count) < 78 {
         return true;
     }
     if broken_line(classes, kinds, terms, others, many) < many {

@@ -8,9 +8,12 @@ use lib.IntN.{ℤ}
 use lib.ListN.{getD}
 use borrow.Author.Tests.{eq-eqb, ne-eqb}
 use Rattle.laws.specs.Lists.{any, from}
+use Rattle.laws.proofs.Bools.{and-left}
 use Rattle.guard.specs.Closure.{State, eqZ, labelOf}
 use Rattle.loops.proofs.Tests.{and-no, and-yes, no-and, yes-and}
 use Rattle.slots.specs.Slots.{sortAt}
+use Rattle.labelled.specs.Covers.{Covers, hasMask}
+use Rattle.labelled.proofs.Covering.{covers-less}
 use Rattle.given.specs.Facts.{constantValue}
 use Rattle.reasons.specs.Reasons.{brokenAt, constantClass, emptyAt, unlike, unlikeBefore}
 
@@ -24,6 +27,11 @@ module _ (sorts full : List ℕ) (s : State) (x label : ℕ) (is : label ≡ lab
   pub label-empty : label ≡ 0 → (sort : ℕ) → sort ≡ sortAt sorts x → not (eqb (getD full sort 0) 0) ≡ emptyAt sorts full s x
   unfolding emptyAt
   label-empty e sort q = ap (λ (k : ℕ). not (eqb (getD full k 0) 0)) q ∙ and-yes (not (eqb (getD full (sortAt sorts x) 0) 0)) (eq-eqb _ _ (sym is ∙ e))
+
+-- a list of all terms of variant type has all whose label is empty
+pub empty-covered : (sorts full : List ℕ) (s : State) {list : List ℕ} {many : ℕ} → Covers (hasMask sorts full) 78 list many → Covers (emptyAt sorts full s) 78 list many
+unfolding emptyAt hasMask
+empty-covered sorts full s = covers-less (emptyAt sorts full s) (λ x e. and-left _ _ e)
 
 -- ---- unequal lines
 

@@ -4,6 +4,7 @@ ghost use Prim.Native.Nat.{_<_, _≤_};
 ghost use Rattle.classes.specs.Held.{Held, state};
 ghost use Rattle.loops.specs.Lowest.{lowest};
 ghost use Rattle.slots.specs.Slots.{SortsFit};
+ghost use Rattle.labelled.specs.Covers.{Covers, hasMask};
 ghost use Rattle.reasons.specs.Reasons.{LinesFit, brokenAt, constantClass, emptyAt, unlike, unlikeAt, unlikeBefore};
 use slots::label_at;
 use slots::wide;
@@ -29,23 +30,27 @@ fn is_empty(
     full[wide(sorts[x])] != 0
 }
 
-// The lowest term of variant type with an empty label; 78 if there is none.
+// The lowest term of variant type with an empty label, of a list that leaves out none of them; 78 if there is none.
 pub fn empty_label(
     classes: &[u8; 96],
     labels: &[u16; 96],
     sorts: &[u8; 96],
     full: &[u16; 8],
+    labelled: &[u8; 96],
+    count: usize,
 ) -> usize
     requires { ⌜ Held (now classes) ⌝ }
     requires { ⌜ SortsFit (now sorts) ⌝ }
+    requires { ⌜ Covers (hasMask (now sorts) (now full)) 78 (now labelled) count ⌝ }
     ensures { λ r. ⌜ r ≡ lowest (emptyAt (now (sorts .entry)) (now (full .entry)) (state (now (classes .entry)) (now (labels .entry)))) 78 ⌝ }
 {
-    let mut x: usize = 0;
-    while x < 78 {
+    let mut i: usize = 0;
+    while i < count {
+        let x = labelled[i] as usize;
         if is_empty(classes, labels, sorts, full, x) {
             return x;
         }
-        x += 1;
+        i += 1;
     }
     78
 }

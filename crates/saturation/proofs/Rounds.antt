@@ -1,5 +1,5 @@
 -- The families one after the other, until one changes something; and such rounds until none does. Assumes nothing.
-use mathlib.Core.Path.{_≡_, refl, sym, subst}
+use mathlib.Core.Path.{_≡_, refl, sym, _∙_, subst}
 use mathlib.Core.Bool.{Bool, true, false, false≢true}
 use mathlib.Core.List.{List, _++_, Memᴰ·append-left}
 use Prim.Native.Nat.{ℕ}
@@ -10,7 +10,9 @@ use Rattle.passes.proofs.PassLaws.{second-tells, steps-more, steps-on}
 use Rattle.congruence.specs.Due.{shapesDue}
 use Rattle.reads.specs.Due.{defaultsDue, readsDue}
 use Rattle.singles.specs.Due.{singlesDue}
-use Rattle.saturation.specs.Due.{allDue}
+use Rattle.loops.specs.Lowest.{lowest}
+use Rattle.reasons.specs.Reasons.{emptyAt}
+use Rattle.saturation.specs.Due.{Settled, allDue}
 
 -- a pass that changed something will do, whatever else is due
 changed-first : {due : Due} (also : Due) {s s′ : State} {r : Bool} → r ≡ true → Pass due s s′ r → Pass (λ x. due x ++ also x) s s′ true
@@ -50,9 +52,19 @@ module _ (shapes reads sorts fieldless : List ℕ) where
 
 -- ---- rounds
 
-module _ {due : Due} {s : State} where
-  -- one more pass that changed something, or the last, which did not
-  pub last-round : {s′ s″ : State} (r : Bool) → r ≡ false → Steps due s s′ → Pass due s′ s″ r → Saturated due s s″
+module _ (shapes reads sorts full fieldless : List ℕ) {s : State} where
+  -- a label is empty, and that will do
+  pub stopped : {s′ : State} (x : ℕ) → x ≡ lowest (emptyAt sorts full s′) 78 → ¬ (x ≡ 78) → Steps (allDue shapes reads sorts fieldless) s s′ → Settled shapes reads sorts full fieldless s s′
+  stopped x e n p = record { steps = p; quiet = λ q. absurd (n (e ∙ q)) }
+
+  -- one more pass, which changed nothing
+  pub last-round : {s′ s″ : State} (r : Bool) → r ≡ false → Steps (allDue shapes reads sorts fieldless) s s′ → Pass (allDue shapes reads sorts fieldless) s′ s″ r
+      → Settled shapes reads sorts full fieldless s s″
   last-round r e p q =
       let (same-state, held) = q .quiet e in
-      record { steps = steps-on p (q .steps); quiet = subst (λ (z : State). All (λ f. holds z f ≡ true) (due z)) (sym same-state) held }
+      record { steps = steps-on p (q .steps); quiet = λ _. subst (λ (z : State). All (λ f. holds z f ≡ true) (allDue shapes reads sorts fieldless z)) (sym same-state) held }
+
+-- without an empty label all that is due holds
+pub saturated : {shapes reads sorts full fieldless : List ℕ} {s s′ : State} → Settled shapes reads sorts full fieldless s s′ → lowest (emptyAt sorts full s′) 78 ≡ 78
+    → Saturated (allDue shapes reads sorts fieldless) s s′
+saturated t e = record { steps = t .steps; quiet = t .quiet e }

@@ -1,8 +1,9 @@
-// The closure of a node: the passes of all families of rules, until nothing is new.
+// The closure of a node: the passes of all families of rules, until nothing is new or a label is empty.
 ghost use Rattle.classes.specs.Held.{Held, state};
-ghost use Rattle.passes.specs.Pass.{Pass, Saturated};
+ghost use Rattle.passes.specs.Pass.{Pass};
 ghost use Rattle.slots.specs.Slots.{ReadsFit, ShapesFit, SortsFit};
-ghost use Rattle.saturation.specs.Due.{allDue};
+ghost use Rattle.labelled.specs.Covers.{Covers, hasMask};
+ghost use Rattle.saturation.specs.Due.{Settled, allDue};
 
 // One pass that changed something; or all of them, and nothing is new.
 fn advance(
@@ -12,16 +13,19 @@ fn advance(
     reads: &[u16; 96],
     sorts: &[u8; 96],
     fieldless: &[u16; 8],
+    labelled: &[u8; 96],
+    count: usize,
 ) -> bool
     requires { ⌜ Held (now classes) ⌝ }
     requires { ⌜ ShapesFit (now shapes) × ReadsFit (now reads) × SortsFit (now sorts) ⌝ }
+    requires { ⌜ Covers (hasMask (now sorts) (now fieldless)) 78 (now labelled) count ⌝ }
     ensures { λ r. ⌜ Pass (allDue (now (shapes .entry)) (now (reads .entry)) (now (sorts .entry)) (now (fieldless .entry))) (state (now (classes .entry)) (now (labels .entry))) (state (now (classes .exit)) (now (labels .exit))) r ⌝ }
     ensures { λ r. ⌜ Held (now (classes .exit)) ⌝ }
 {
     if reads::pass_defaults(classes, labels, reads) {
         return true;
     }
-    if singles::pass_singles(classes, labels, sorts, fieldless) {
+    if singles::pass_singles(classes, labels, sorts, fieldless, labelled, count) {
         return true;
     }
     if keys::pass_shapes(classes, labels, shapes) {
@@ -30,19 +34,36 @@ fn advance(
     reads::pass_reads(classes, labels, reads)
 }
 
-// Adds what the rules give until nothing is new.
+// Adds what the rules give until nothing is new, or a label is empty: that closes the node, whatever else the rules give.
 pub fn saturate(
     classes: &mut [u8; 96],
     labels: &mut [u16; 96],
     shapes: &[u16; 256],
     reads: &[u16; 96],
     sorts: &[u8; 96],
+    full: &[u16; 8],
     fieldless: &[u16; 8],
+    labelled: &[u8; 96],
+    count: usize,
 )
     requires { ⌜ Held (now classes) ⌝ }
     requires { ⌜ ShapesFit (now shapes) × ReadsFit (now reads) × SortsFit (now sorts) ⌝ }
-    ensures { λ _. ⌜ Saturated (allDue (now (shapes .entry)) (now (reads .entry)) (now (sorts .entry)) (now (fieldless .entry))) (state (now (classes .entry)) (now (labels .entry))) (state (now (classes .exit)) (now (labels .exit))) ⌝ }
+    requires { ⌜ Covers (hasMask (now sorts) (now full)) 78 (now labelled) count × Covers (hasMask (now sorts) (now fieldless)) 78 (now labelled) count ⌝ }
+    ensures { λ _. ⌜ Settled (now (shapes .entry)) (now (reads .entry)) (now (sorts .entry)) (now (full .entry)) (now (fieldless .entry)) (state (now (classes .entry)) (now (labels .entry))) (state (now (classes .exit)) (now (labels .exit))) ⌝ }
     ensures { λ _. ⌜ Held (now (classes .exit)) ⌝ }
 {
-    while advance(classes, labels, shapes, reads, sorts, fieldless) {}
+    while reasons::empty_label(classes, labels, sorts, full, labelled, count) == 78 {
+        if !advance(
+            classes,
+            labels,
+            shapes,
+            reads,
+            sorts,
+            fieldless,
+            labelled,
+            count,
+        ) {
+            return;
+        }
+    }
 }

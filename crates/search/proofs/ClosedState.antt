@@ -16,7 +16,8 @@ use Rattle.guard.specs.Guard.{Guard, Literal, Literal.is, Literal.isnt, Literal
 use Rattle.guard.specs.Node.{Split, isClosed, splitOf}
 use Rattle.guard.specs.Terms.{Table, Term, tableOf, termCount}
 use Rattle.guard.specs.Types.{variantsOf}
-use Rattle.guard.proofs.Agreement.{Agrees, closed-agrees, named-reached, reached-agrees, split-agrees}
+use borrow.Author.Tests.{lt-ltb}
+use Rattle.guard.proofs.Agreement.{Agrees, closed-agrees, named-reached, reached-agrees, reached-empty, split-agrees}
 use Rattle.guard.proofs.AnyOrder.{Reached, Reached.by-given, Reached.by-rules, Reached.start, any-order, reached-small}
 use Rattle.guard.proofs.ClosureBelow.{InRange, LiteralsInRange}
 use Rattle.guard.proofs.ClosureState.{Says, Small, add-keeps, add-says, says-kept}
@@ -24,13 +25,16 @@ use Rattle.guard.proofs.NodeLaws.{SplitsAt, cons-in-range, split-is}
 use Rattle.guard.proofs.TableLaws.{literals-in-range, table-in-range}
 use Rattle.tables.specs.Layout.{literalTable, rowTable}
 use Rattle.classes.specs.Held.{Held}
-use Rattle.passes.specs.Pass.{Saturated}
+use Rattle.passes.specs.Pass.{Saturated, Steps}
 use Rattle.passes.proofs.PassLaws.{steps-keep, steps-reach}
 use Rattle.problem.specs.Problem.{constantsOf, fieldlessOf, fullOf, readsOf, shapesOf, sortsOf}
 use Rattle.saturation.specs.Due.{allDue}
 use Rattle.saturation.proofs.Follows.{all-follow, nothing-new}
 use Rattle.splits.specs.Choice.{splitBy}
 use Rattle.splits.proofs.SplitLaws.{split-same}
+use Rattle.loops.specs.Lowest.{lowest}
+use Rattle.reasons.specs.Reasons.{emptyAt}
+use Rattle.reasons.proofs.ReasonLaws.{empty-same}
 use Rattle.nodes.specs.Closed.{closedBy}
 use Rattle.nodes.proofs.NodeLaws.{closed-same}
 use Rattle.search.specs.Nodes.{Accepted, Begun, NodeLiterals, NodeLiterals.atIs, NodeLiterals.atIsnt, NodeLiterals.atRoot}
@@ -99,16 +103,32 @@ module _ (t : Table) (ls : List Literal) (l : Literal) where
   reached-next : {room : ℕ} {s : State} (f : Fact) → ofLiteral l ≡ f ∷ [] → Reached t ls room s → Reached t (l ∷ ls) room (add s f)
   reached-next f e r = by-given (reached-more r) f (now-given f (subst (List·Memᴰ f) (sym e) (List·Memᴰ·head refl)))
 
+-- ---- on the way of saturation
+
+module _ (g : Guard) (ok : Accepted g) (ls : List Literal) (s : State) (begun : Begun g ls s) (s′ : State)
+    (steps : Steps (allDue (shapesOf g) (readsOf g) (sortsOf g) (fieldlessOf g)) s s′) where
+  there : Reached (tableOf g) ls 96 s′
+  there =
+      steps-reach (tableOf g) ls 96 (λ x r f m. all-follow (ok .limits) (ok .supported) g (ok .wellFormed) (ok .total) x (reached-small r) f m) steps (begun .reached)
+
+  range : LiteralsInRange ls
+  range = literals-in g ok (begun .node)
+
+  -- an empty label closes the node
+  pub closes-early : lowest (emptyAt (sortsOf g) (fullOf g) s′) 78 < 78 → isClosed (tableOf g) ls (closureOf (tableOf g) ls) ≡ true
+  closes-early h =
+      reached-empty (tableOf g) ls (in-range g ok) range 96 (omega arith) s′ there
+      (sym (empty-same (ok .limits) (ok .supported) g (ok .wellFormed) (ok .total) s′) ∙ lt-ltb _ 78 h)
+
 -- ---- after saturation
 
 module _ (g : Guard) (ok : Accepted g) (ls : List Literal) (s : State) (begun : Begun g ls s) (s′ : State)
     (sat : Saturated (allDue (shapesOf g) (readsOf g) (sortsOf g) (fieldlessOf g)) s s′) where
-  there : Reached (tableOf g) ls 96 s′
-  there =
-      steps-reach (tableOf g) ls 96 (λ x r f m. all-follow (ok .limits) (ok .supported) g (ok .wellFormed) (ok .total) x (reached-small r) f m) (sat .steps) (begun .reached)
+  arrived : Reached (tableOf g) ls 96 s′
+  arrived = there g ok ls s begun s′ (sat .steps)
 
   small : Small s′
-  small = reached-small there
+  small = reached-small arrived
 
   says : All (Says s′) (given (tableOf g) ls)
   says = all-of (given (tableOf g) ls) (λ f m. says-kept (steps-keep (sat .steps)) f (all-mem (begun .says) f m))
@@ -116,20 +136,20 @@ module _ (g : Guard) (ok : Accepted g) (ls : List Literal) (s : State) (begun : 
   quiet : All (λ f. holds s′ f ≡ true) (consequences (tableOf g) s′)
   quiet = nothing-new (ok .limits) (ok .supported) g (ok .wellFormed) (ok .total) s′ small (sat .quiet)
 
-  range : LiteralsInRange ls
-  range = literals-in g ok (begun .node)
+  in-range-here : LiteralsInRange ls
+  in-range-here = literals-in g ok (begun .node)
 
   pub agreed : Agrees s′ (closureOf (tableOf g) ls)
-  agreed = reached-agrees (tableOf g) ls (in-range g ok) range 96 (omega arith) s′ there says quiet
+  agreed = reached-agrees (tableOf g) ls (in-range g ok) in-range-here 96 (omega arith) s′ arrived says quiet
 
   beyond : (x : Term) → List·Memᴰ x (tableOf g .terms) → (v : ℕ) → length (variantsOf (tableOf g .types) (x .type)) ≤ v → LacksAt s′ (x .term) v
-  beyond x m v h = any-order (tableOf g) ls (in-range g ok) range 96 (omega arith) s′ there says quiet .rules .beyond x v m h
+  beyond x m v h = any-order (tableOf g) ls (in-range g ok) in-range-here 96 (omega arith) s′ arrived says quiet .rules .beyond x v m h
 
   pub closes : Held (s′ .classes) → closedBy (shapesOf g) (sortsOf g) (fullOf g) (constantsOf g) (rowTable (g .types) (g .rows) .values) (literalTable (g .literals) .kinds) (literalTable (g .literals) .terms) (literalTable (g .literals) .others) (literalTable (g .literals) .many) s′
       ≡ isClosed (tableOf g) ls (closureOf (tableOf g) ls)
   closes held =
-      closed-same (ok .limits) (ok .supported) g (ok .wellFormed) (ok .total) s′ small held (λ i h. omega (arith, named-reached there .low i)) ls (unequal-given (begun .node)) (unequal-kept (begun .node))
-      ∙ closed-agrees (tableOf g) ls (in-range g ok) range s′ (closureOf (tableOf g) ls) agreed
+      closed-same (ok .limits) (ok .supported) g (ok .wellFormed) (ok .total) s′ small held (λ i h. omega (arith, named-reached arrived .low i)) ls (unequal-given (begun .node)) (unequal-kept (begun .node))
+      ∙ closed-agrees (tableOf g) ls (in-range g ok) in-range-here s′ (closureOf (tableOf g) ls) agreed
 
   pub splits : splitBy (readsOf g) (sortsOf g) (fieldlessOf g) s′ ≡ splitOf (tableOf g) (closureOf (tableOf g) ls)
   splits =
@@ -149,7 +169,7 @@ module _ (g : Guard) (ok : Accepted g) (ls : List Literal) (s : State) (begun : 
     is-begun =
         record {
           node = atIs (begun .node) (d .term) (d .variant) inside (at .variant);
-          reached = reached-next (tableOf g) ls (is (d .term) (d .variant)) (within (d .term) (2 ^ (d .variant))) refl there;
+          reached = reached-next (tableOf g) ls (is (d .term) (d .variant)) (within (d .term) (2 ^ (d .variant))) refl arrived;
           says = says-more (tableOf g) ls (is (d .term) (d .variant)) s′ (within (d .term) (2 ^ (d .variant))) refl says;
         }
 
@@ -157,6 +177,6 @@ module _ (g : Guard) (ok : Accepted g) (ls : List Literal) (s : State) (begun : 
     isnt-begun =
         record {
           node = atIsnt (begun .node) (d .term) (d .variant) inside (at .variant);
-          reached = reached-next (tableOf g) ls (isnt (d .term) (d .variant)) (within (d .term) (everyVariant - 2 ^ (d .variant))) refl there;
+          reached = reached-next (tableOf g) ls (isnt (d .term) (d .variant)) (within (d .term) (everyVariant - 2 ^ (d .variant))) refl arrived;
           says = says-more (tableOf g) ls (isnt (d .term) (d .variant)) s′ (within (d .term) (everyVariant - 2 ^ (d .variant))) refl says;
         }

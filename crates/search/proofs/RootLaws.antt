@@ -23,6 +23,9 @@ use Rattle.problem.specs.declared.Problem.{Problem}
 use Rattle.problem.specs.Problem.{problemOf}
 use Rattle.problem.specs.Columns.{problemBy}
 use Rattle.problem.proofs.ProblemLaws.{problem-is}
+use Rattle.slots.specs.Slots.{ShapesFit, SortsFit}
+use Rattle.labelled.specs.Covers.{Lists, hasLabel}
+use Rattle.labelled.proofs.Covering.{covers-fieldless, covers-full}
 use Rattle.slots.proofs.GuardSlots.{reads-fit, shapes-fit, sorts-fit}
 use Rattle.given.specs.Facts.{LiteralsFit, givenBy}
 use Rattle.given.proofs.GivenLaws.{begin-reached, begin-says, givenOf, literals-fit}
@@ -62,17 +65,25 @@ module _ (tables : Tables) (p : Problem) (ep : p ≡ problemBy tables) (g : Guar
   abbrev A : Type 0
   A = ArraysOf g (p .shapes) (p .reads) (p .sorts) (p .full) (p .fieldless) (p .constants) (tables .rows .values) (tables .literals .kinds) (tables .literals .terms) (tables .literals .others) (tables .literals .many)
 
-  pub arrays-fit : ArraysFit (p .shapes) (p .reads) (p .sorts) (tables .literals .terms) (tables .literals .others) (tables .literals .many)
-  arrays-fit =
+  pub shapes-fit-here : ShapesFit (p .shapes)
+  shapes-fit-here = let a : A = arrays-of in rw (a .isShapes) (shapes-fit (ok .limits) (ok .supported) g (ok .wellFormed) (ok .total))
+
+  pub sorts-fit-here : SortsFit (p .sorts)
+  sorts-fit-here = let a : A = arrays-of in rw (a .isSorts) (sorts-fit (ok .limits) (ok .supported) g (ok .wellFormed) (ok .total))
+
+  pub arrays-fit : (labelled : List ℕ) (count : ℕ) → Lists (hasLabel (p .sorts) (p .full) (p .fieldless)) 78 labelled count
+      → ArraysFit (p .shapes) (p .reads) (p .sorts) (p .full) (p .fieldless) labelled count (tables .literals .terms) (tables .literals .others) (tables .literals .many)
+  arrays-fit labelled count l =
       let a : A = arrays-of in
-      let fits : ArraysFit _ _ _ _ _ _ = record {
-        shapesFit = shapes-fit (ok .limits) (ok .supported) g (ok .wellFormed) (ok .total);
-        readsFit = reads-fit (ok .limits) (ok .supported) g (ok .wellFormed) (ok .total);
-        sortsFit = sorts-fit (ok .limits) (ok .supported) g (ok .wellFormed) (ok .total);
-        linesFit = lines-fit (ok .limits) (ok .supported) g (ok .wellFormed);
-        fewLines = few-lines (ok .limits) (ok .supported) g (ok .wellFormed);
-      } in
-      rw (a .isShapes, a .isReads, a .isSorts, a .isTerms, a .isOthers, a .isMany) fits
+      record {
+        shapesFit = shapes-fit-here;
+        readsFit = rw (a .isReads) (reads-fit (ok .limits) (ok .supported) g (ok .wellFormed) (ok .total));
+        sortsFit = sorts-fit-here;
+        coversFull = covers-full (p .sorts) (p .full) (p .fieldless) l;
+        coversFieldless = covers-fieldless (p .sorts) (p .full) (p .fieldless) l;
+        linesFit = rw (a .isTerms, a .isOthers) (lines-fit (ok .limits) (ok .supported) g (ok .wellFormed));
+        fewLines = rw (a .isMany) (few-lines (ok .limits) (ok .supported) g (ok .wellFormed));
+      }
 
   pub literals-fit-here : LiteralsFit (tables .literals .kinds) (tables .literals .terms) (tables .literals .others) (tables .literals .many)
   literals-fit-here =

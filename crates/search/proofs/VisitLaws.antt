@@ -6,7 +6,10 @@ use mathlib.Core.List.{List, _∷_}
 use mathlib.Core.Option.{Option, none, some}
 use Prim.Native.Nat.{ℕ, _-_, _^_, _<_}
 use native.Mathlib.Omega.{arith}
+use lib.Dec.{ltb}
 use lib.IntN.{ℤ}
+use borrow.Author.Tests.{ltb-true}
+use Rattle.laws.proofs.Bools.{by-test}
 use Rattle.guard.specs.Closure.{Fact.within, State, add, closureOf, everyVariant}
 use Rattle.guard.specs.Guard.{Guard, Literal, Literal.is, Literal.isnt}
 use Rattle.guard.specs.Node.{Split, isClosed, splitOf}
@@ -16,16 +19,21 @@ use Rattle.guard.proofs.ClosureBelow.{LiteralsInRange}
 use Rattle.guard.proofs.SearchLaws.{search-pos, search-step}
 use Rattle.guard.proofs.TableLaws.{table-in-range}
 use Rattle.classes.specs.Held.{Held}
+use Rattle.loops.specs.Lowest.{lowest}
+use Rattle.loops.proofs.Loops.{lowest-none}
 use Rattle.passes.specs.Pass.{Saturated}
 use Rattle.problem.specs.Problem.{fieldlessOf, readsOf, shapesOf, sortsOf}
-use Rattle.saturation.specs.Due.{allDue}
+use Rattle.reasons.specs.Reasons.{emptyAt}
+use Rattle.saturation.specs.Due.{Settled, allDue}
+use Rattle.saturation.proofs.Rounds.{saturated}
 use Rattle.splits.specs.declared.Choice.{Choice}
 use Rattle.splits.specs.Choice.{choiceOf, splitBy}
 use Rattle.nodes.specs.Closed.{closedBy}
+use Rattle.nodes.proofs.Closed.{none-empty}
 use Rattle.search.specs.declared.Outcome.{Outcome}
 use Rattle.search.specs.Outcome.{isClosedOutcome, leftOf, outcome}
 use Rattle.search.specs.Nodes.{Accepted, ArraysOf, Begun, OpenLeaf, Searches}
-use Rattle.search.proofs.ClosedState.{agreed, closes, is-begun, isnt-begun, literals-in, splits}
+use Rattle.search.proofs.ClosedState.{agreed, closes, closes-early, is-begun, isnt-begun, literals-in, splits}
 use Rattle.search.proofs.OutcomeLaws.{closed-left, first-tells, none-left, open-left, second-goes-on}
 
 -- ---- a choice as code returns it
@@ -61,7 +69,7 @@ module _ (shapes reads sorts full fieldless constants : List ℕ) (values : List
       no-open : (n : ℕ) → Outcome.Spent ≡ Outcome.Open n → ⊥
       no-open n q = let z : _≡_ {A = ℕ} 0 1 = cc in absurd (omega arith)
 
-  module _ (s s₁ : State) (left : ℕ) (some-left : 0 < left) (sat : Saturated (allDue shapes reads sorts fieldless) s s₁) (held : Held (s₁ .classes)) where
+  module _ (s s₁ : State) (left : ℕ) (some-left : 0 < left) (settled : Settled shapes reads sorts full fieldless s s₁) (held : Held (s₁ .classes)) where
     abbrev test : Bool
     test = closedBy shapes sorts full constants values kinds terms others many s₁
 
@@ -72,31 +80,45 @@ module _ (shapes reads sorts full fieldless constants : List ℕ) (values : List
       range : LiteralsInRange ls
       range = literals-in g ok (begun .node)
 
-      here : Saturated (allDue (shapesOf g) (readsOf g) (sortsOf g) (fieldlessOf g)) s s₁
-      here = rw (sym (arrays .isShapes), sym (arrays .isReads), sym (arrays .isSorts), sym (arrays .isFieldless)) sat
+      -- without an empty label the state is saturated
+      module _ (full? : lowest (emptyAt sorts full s₁) 78 ≡ 78) where
+        here : Saturated (allDue (shapesOf g) (readsOf g) (sortsOf g) (fieldlessOf g)) s s₁
+        here = rw (sym (arrays .isShapes), sym (arrays .isReads), sym (arrays .isSorts), sym (arrays .isFieldless)) (saturated settled full?)
 
-      is-test : (b : Bool) → test ≡ b → isClosed (tableOf g) ls (closureOf (tableOf g) ls) ≡ b
-      is-test b e = sym (closes g ok ls s begun s₁ here held) ∙ rw (sym (arrays .isShapes), sym (arrays .isSorts), sym (arrays .isFull), sym (arrays .isConstants), sym (arrays .isValues), sym (arrays .isKinds), sym (arrays .isTerms), sym (arrays .isOthers), sym (arrays .isMany)) e
+        is-test : (b : Bool) → test ≡ b → isClosed (tableOf g) ls (closureOf (tableOf g) ls) ≡ b
+        is-test b e = sym (closes g ok ls s begun s₁ here held) ∙ rw (sym (arrays .isShapes), sym (arrays .isSorts), sym (arrays .isFull), sym (arrays .isConstants), sym (arrays .isValues), sym (arrays .isKinds), sym (arrays .isTerms), sym (arrays .isOthers), sym (arrays .isMany)) e
 
-      is-choice : (o : Option Split) → choice ≡ o → splitOf (tableOf g) (closureOf (tableOf g) ls) ≡ o
-      is-choice o e = sym (splits g ok ls s begun s₁ here) ∙ rw (sym (arrays .isReads), sym (arrays .isSorts), sym (arrays .isFieldless)) e
+        is-choice : (o : Option Split) → choice ≡ o → splitOf (tableOf g) (closureOf (tableOf g) ls) ≡ o
+        is-choice o e = sym (splits g ok ls s begun s₁ here) ∙ rw (sym (arrays .isReads), sym (arrays .isSorts), sym (arrays .isFieldless)) e
+
+      -- with one the node is closed, whatever else follows
+      is-early : lowest (emptyAt sorts full s₁) 78 < 78 → isClosed (tableOf g) ls (closureOf (tableOf g) ls) ≡ true
+      is-early h =
+          closes-early g ok ls s begun s₁ (rw (sym (arrays .isShapes), sym (arrays .isReads), sym (arrays .isSorts), sym (arrays .isFieldless)) (settled .steps))
+          (rw (sym (arrays .isSorts), sym (arrays .isFull)) h)
+
+      is-closed : test ≡ true → isClosed (tableOf g) ls (closureOf (tableOf g) ls) ≡ true
+      is-closed e = by-test (ltb (lowest (emptyAt sorts full s₁) 78) 78) (λ b. is-early (ltb-true _ 78 b)) (λ b. is-test (lowest-none (emptyAt sorts full s₁) 78 b) true e)
 
     pub closed-node : test ≡ true → Gives left s (Outcome.Closed (left - 1)) s₁
     unfolding Searches
     closed-node e g ls ok arrays begun =
-        (sym (ap (λ (w : Visits). outcome w left) (step-by g ok ls (range g ls ok arrays begun) true _ (is-test g ls ok arrays begun true e) refl) ∙ closed-left 1 left some-left), λ n q. absurd (no-open n q))
+        (sym (ap (λ (w : Visits). outcome w left) (step-by g ok ls (range g ls ok arrays begun) true _ (is-closed g ls ok arrays begun e) refl) ∙ closed-left 1 left some-left), λ n q. absurd (no-open n q))
       where
         no-open : (n : ℕ) → Outcome.Closed (left - 1) ≡ Outcome.Open n → ⊥
         no-open n q = let z : _≡_ {A = ℕ} 0 1 = cc in absurd (omega arith)
 
     module _ (live : test ≡ false) where
+      full? : lowest (emptyAt sorts full s₁) 78 ≡ 78
+      full? = none-empty shapes sorts full constants values kinds terms others many s₁ live
+
       pub open-node : choice ≡ none → Gives left s (Outcome.Open (left - 1)) s₁
       unfolding Searches
       open-node e g ls ok arrays begun =
-          let closed? = is-test g ls ok arrays begun false live in
-          let split? = is-choice g ls ok arrays begun none e in (
+          let closed? = is-test g ls ok arrays begun full? false live in
+          let split? = is-choice g ls ok arrays begun full? none e in (
             sym (ap (λ (w : Visits). outcome w left) (step-by g ok ls (range g ls ok arrays begun) false none closed? split?) ∙ open-left 1 left some-left),
-            λ n q. record { literals = ls; node = begun .node; notClosed = closed?; noSplit = split?; agrees = agreed g ok ls s begun s₁ (here g ls ok arrays begun) },
+            λ n q. record { literals = ls; node = begun .node; notClosed = closed?; noSplit = split?; agrees = agreed g ok ls s begun s₁ (here g ls ok arrays begun full?) },
           )
 
       module _ (d : Split) (split? : choice ≡ some d) (r : Outcome) (child s₂ : State) (first : Gives (left - 1) child r s₂) (is-child : child ≡ add s₁ (within (d .term) (2 ^ (d .variant)))) where
@@ -108,15 +130,15 @@ module _ (shapes reads sorts full fieldless constants : List ℕ) (values : List
           isntVisits = search (tableOf g) (isnt (d .term) (d .variant) ∷ ls)
 
           chosen : splitOf (tableOf g) (closureOf (tableOf g) ls) ≡ some d
-          chosen = is-choice g ls ok arrays begun (some d) split?
+          chosen = is-choice g ls ok arrays begun full? (some d) split?
 
           by-first : (r ≡ outcome isVisits (left - 1)) × ((n : ℕ) → r ≡ Outcome.Open n → OpenLeaf g s₂)
           unfolding Searches
           by-first =
-              first g (is (d .term) (d .variant) ∷ ls) ok arrays (subst (Begun g (is (d .term) (d .variant) ∷ ls)) (sym is-child) (is-begun g ok ls s begun s₁ (here g ls ok arrays begun) d chosen))
+              first g (is (d .term) (d .variant) ∷ ls) ok arrays (subst (Begun g (is (d .term) (d .variant) ∷ ls)) (sym is-child) (is-begun g ok ls s begun s₁ (here g ls ok arrays begun full?) d chosen))
 
           whole : search (tableOf g) ls ≡ children isVisits (λ u. isntVisits)
-          whole = step-by g ok ls (range g ls ok arrays begun) false (some d) (is-test g ls ok arrays begun false live) chosen
+          whole = step-by g ok ls (range g ls ok arrays begun) false (some d) (is-test g ls ok arrays begun full? false live) chosen
 
         -- the first child is open, or the budget is spent
         pub first-ends : isClosedOutcome r ≡ false → Gives left s r s₂
@@ -135,7 +157,7 @@ module _ (shapes reads sorts full fieldless constants : List ℕ) (values : List
         second-ends e r′ child′ s₃ second is-child′ g ls ok arrays begun =
             let (q, leaf) = by-first g ls ok arrays begun in
             let (q′, leaf′) = second g (isnt (d .term) (d .variant) ∷ ls) ok arrays
-            (subst (Begun g (isnt (d .term) (d .variant) ∷ ls)) (sym is-child′) (isnt-begun g ok ls s begun s₁ (here g ls ok arrays begun) d (chosen g ls ok arrays begun))) in (
+            (subst (Begun g (isnt (d .term) (d .variant) ∷ ls)) (sym is-child′) (isnt-begun g ok ls s begun s₁ (here g ls ok arrays begun full?) d (chosen g ls ok arrays begun))) in (
               q′ ∙ ap (λ (o : Outcome). outcome (isntVisits g ls ok arrays begun) (leftOf o)) q
                   ∙ sym (ap (λ (w : Visits). outcome w left) (whole g ls ok arrays begun)
                   ∙ second-goes-on (isVisits g ls ok arrays begun) (isntVisits g ls ok arrays begun) left some-left (sym (ap isClosedOutcome q) ∙ e)),

@@ -24,6 +24,7 @@ use Rattle.reader.specs.Reader.{guardTables}
 use Rattle.classes.specs.Held.{Held, state}
 use Rattle.problem.specs.Problem.{constantsOf, fieldlessOf, fullOf, readsOf, shapesOf, sortsOf}
 use Rattle.slots.specs.Slots.{ReadsFit, ShapesFit, SortsFit}
+use Rattle.labelled.specs.Covers.{Covers, hasMask}
 use Rattle.reasons.specs.Reasons.{LinesFit}
 use Rattle.search.specs.declared.Outcome.{Outcome}
 use Rattle.search.specs.Outcome.{isOpenOutcome, outcome}
@@ -61,11 +62,13 @@ pub record StateFit (s : State) : Type 0 where
   pub long : length (s .labels) ≡ 96
   pub small : Small s
 
--- the numbers in the arrays are in range
-pub record ArraysFit (shapes reads sorts terms others : List ℕ) (many : ℕ) : Type 0 where
+-- the numbers in the arrays are in range, and the list of terms leaves out none that has a label
+pub record ArraysFit (shapes reads sorts full fieldless labelled : List ℕ) (count : ℕ) (terms others : List ℕ) (many : ℕ) : Type 0 where
   pub shapesFit : ShapesFit shapes
   pub readsFit : ReadsFit reads
   pub sortsFit : SortsFit sorts
+  pub coversFull : Covers (hasMask sorts full) 78 labelled count
+  pub coversFieldless : Covers (hasMask sorts fieldless) 78 labelled count
   pub linesFit : LinesFit terms others
   pub fewLines : many ≤ 64
 

@@ -55,6 +55,8 @@ fn visit(
     sorts: &[u8; 96],
     full: &[u16; 8],
     fieldless: &[u16; 8],
+    labelled: &[u8; 96],
+    count: usize,
     constants: &[u8; 32],
     values: &[i32; 24],
     kinds: &[u8; 64],
@@ -64,20 +66,32 @@ fn visit(
     left: u32,
 ) -> Outcome
     requires { ⌜ StateFit (state (now classes) (now labels)) ⌝ }
-    requires { ⌜ ArraysFit (now shapes) (now reads) (now sorts) (now terms) (now others) many ⌝ }
+    requires { ⌜ ArraysFit (now shapes) (now reads) (now sorts) (now full) (now fieldless) (now labelled) count (now terms) (now others) many ⌝ }
     ensures { λ r. ⌜ Searches (now (shapes .entry)) (now (reads .entry)) (now (sorts .entry)) (now (full .entry)) (now (fieldless .entry)) (now (constants .entry)) (now (values .entry)) (now (kinds .entry)) (now (terms .entry)) (now (others .entry)) many left (state (now (classes .entry)) (now (labels .entry))) r (state (now (classes .exit)) (now (labels .exit))) ⌝ }
     ensures { λ r. ⌜ Held (now (classes .exit)) ⌝ }
 {
     if left == 0 {
         return Outcome::Spent;
     }
-    saturation::saturate(classes, labels, shapes, reads, sorts, fieldless);
+    saturation::saturate(
+        classes,
+        labels,
+        shapes,
+        reads,
+        sorts,
+        full,
+        fieldless,
+        labelled,
+        count,
+    );
     if nodes::is_closed(
         classes,
         labels,
         shapes,
         sorts,
         full,
+        labelled,
+        count,
         constants,
         values,
         kinds,
@@ -87,7 +101,7 @@ fn visit(
     ) {
         return Outcome::Closed(left - 1);
     }
-    let d = splits::split(classes, labels, reads, sorts, fieldless);
+    let d = splits::split(classes, labels, reads, sorts, fieldless, labelled, count);
     if !d.found {
         return Outcome::Open(left - 1);
     }
@@ -103,6 +117,8 @@ fn visit(
         sorts,
         full,
         fieldless,
+        labelled,
+        count,
         constants,
         values,
         kinds,
@@ -125,6 +141,8 @@ fn visit(
         sorts,
         full,
         fieldless,
+        labelled,
+        count,
         constants,
         values,
         kinds,
@@ -156,6 +174,8 @@ pub fn search(
     let full = problem.full;
     let fieldless = problem.fieldless;
     let constants = problem.constants;
+    let list = labelled::labelled_terms(&sorts, &full, &fieldless);
+    let labelled = list.terms;
     let rows = tables.rows;
     let values = rows.values;
     let literals = tables.literals;
@@ -186,6 +206,8 @@ pub fn search(
         &sorts,
         &full,
         &fieldless,
+        &labelled,
+        list.many,
         &constants,
         &values,
         &kinds,

@@ -11,16 +11,19 @@ use lib.ListN.{length, getD, length-replicate, length-set, replicate, set}
 use lib.Seq.{getD-set-other, getD-set-same}
 use borrow.Author.Tests.{eq-eqb, eqb-false, eqb-true, ltb-false, ltb-true}
 use Rattle.laws.specs.All.{All.more, All.none}
+use Rattle.laws.specs.Bits.{bit}
 use Rattle.laws.specs.Lists.{from}
+use Rattle.laws.proofs.Bits.{bit-zero}
 use Rattle.laws.proofs.Bools.{and-both, and-left, and-right, by-test}
 use Rattle.laws.proofs.Lists.{all-concatMap, all-when, from-bounds, mem-concatMap, mem-from}
-use Rattle.guard.specs.Closure.{Fact.same, SameAt, State, add, classOf, holds, mergeUnless, sameClass, size}
+use Rattle.guard.specs.Closure.{Fact.same, SameAt, State, add, alone, classOf, holds, mergeUnless, sameClass, size}
 use Rattle.guard.specs.Limits.{variantLimit}
 use Rattle.guard.proofs.ClosureEnds.{add-le, add-lt}
 use Rattle.passes.specs.Pass.{Pass, Steps, Steps.done, Steps.then}
 use Rattle.passes.proofs.PassLaws.{steps-le}
-use Rattle.slots.specs.Slots.{onlyIs, sortAt}
+use Rattle.slots.specs.Slots.{fieldlessAt, onlyIs, sortAt}
 use Rattle.slots.proofs.DueLaws.{mem-when}
+use Rattle.labelled.specs.Covers.{hasMask}
 use Rattle.singles.specs.Due.{singleDue, singlesDue, singlesFor, singlesOf}
 use Rattle.singles.specs.Entered.{Advance, AllSeen, Before, Entered, SeenFit, placeOf, seenAt, unseen}
 
@@ -329,6 +332,32 @@ module _ (sorts fieldless : List ℕ) (s : State) (seen : List ℕ) (x : ℕ) wh
   fit-end v f = record { long = f .long; at = λ w n. (⊎-elim (λ h. inl (omega arith)) (λ p. inl (omega (arith, p .0))) (f .at w n .0), f .at w n .1) }
 
 -- ---- the whole pass
+
+-- a term whose type has no fieldless variant
+none-fieldless : (sorts fieldless : List ℕ) (s : State) (x v : ℕ) → hasMask sorts fieldless x ≡ false → onlyIs sorts fieldless s x v ≡ false
+unfolding hasMask onlyIs
+none-fieldless sorts fieldless s x v e =
+    let z : fieldlessAt sorts fieldless x ≡ 0 = eqb-true _ _ (not-none _ e) in
+    ap (λ (m : ℕ). not (eqb (bit m v) 0) && alone s x v) z ∙ ap (λ (b : ℕ). not (eqb b 0) && alone s x v) (bit-zero v)
+  where
+    not-none : (b : Bool) → not b ≡ false → b ≡ true
+    not-none true e = refl
+    not-none false e = absurd (false≢true (sym e))
+
+-- terms that are left out, since their types have no fieldless variant
+module _ (sorts fieldless : List ℕ) (x x′ : ℕ) (further : x ≤ x′) where
+  pub fit-further : (seen : List ℕ) → SeenFit sorts seen x 0 → SeenFit sorts seen x′ 0
+  fit-further seen f = record { long = f .long; at = λ w n. (⊎-elim (λ h. inl (omega arith)) (λ p. absurd (omega (arith, p .1))) (f .at w n .0), f .at w n .1) }
+
+  pub left-out : ((y : ℕ) → x ≤ y → y < x′ → hasMask sorts fieldless y ≡ false) → (s s′ : State) (seen : List ℕ) (changed : Bool)
+      → Entered sorts fieldless s s′ seen x 0 changed → Entered sorts fieldless s s′ seen x′ 0 changed
+  left-out noMask s s′ seen changed e =
+      record { steps = e .steps; falls = e .falls; quiet = λ c. let (q, a) = e .quiet c in (q, record { met = λ y u hu b o. a .met y u hu (earlier y u b o) o; only = a .only }) }
+    where
+      earlier : (y u : ℕ) → Before x′ 0 y u → onlyIs sorts fieldless s y u ≡ true → Before x 0 y u
+      earlier y u (inr (q, h)) o = absurd (omega (arith, h))
+      earlier y u (inl h) o =
+          by-test (ltb y x) (λ t. inl (ltb-true y x t)) (λ t. absurd (false≢true (sym (none-fieldless sorts fieldless s y u (noMask y (ltb-false y x t) h)) ∙ o)))
 
 module _ (sorts fieldless : List ℕ) (s : State) where
   pub none-met : Entered sorts fieldless s s (replicate 112 unseen) 0 0 false

@@ -4,6 +4,7 @@ ghost use Prim.Native.Nat.{_+_, _<_};
 ghost use Rattle.classes.specs.Held.{Held, state};
 ghost use Rattle.passes.specs.Pass.{Pass};
 ghost use Rattle.slots.specs.Slots.{SortsFit};
+ghost use Rattle.labelled.specs.Covers.{Covers, hasMask};
 ghost use Rattle.singles.specs.Due.{singlesDue};
 ghost use Rattle.singles.specs.Entered.{Advance, SeenFit, placeOf};
 use slots::fieldless_of;
@@ -91,25 +92,29 @@ fn enter_term(
     changed
 }
 
+// The terms of a list that leaves out none whose type has a fieldless variant.
 pub fn pass_singles(
     classes: &mut [u8; 96],
     labels: &mut [u16; 96],
     sorts: &[u8; 96],
     fieldless: &[u16; 8],
+    labelled: &[u8; 96],
+    count: usize,
 ) -> bool
     requires { ⌜ Held (now classes) ⌝ }
     requires { ⌜ SortsFit (now sorts) ⌝ }
+    requires { ⌜ Covers (hasMask (now sorts) (now fieldless)) 78 (now labelled) count ⌝ }
     ensures { λ r. ⌜ Pass (singlesDue (now (sorts .entry)) (now (fieldless .entry))) (state (now (classes .entry)) (now (labels .entry))) (state (now (classes .exit)) (now (labels .exit))) r ⌝ }
     ensures { λ r. ⌜ Held (now (classes .exit)) ⌝ }
 {
     let mut seen = [255u8; 112];
     let mut changed = false;
-    let mut x: u8 = 0;
-    while x < 78 {
-        if enter_term(classes, labels, sorts, fieldless, &mut seen, x) {
+    let mut i: usize = 0;
+    while i < count {
+        if enter_term(classes, labels, sorts, fieldless, &mut seen, labelled[i]) {
             changed = true;
         }
-        x += 1;
+        i += 1;
     }
     changed
 }

@@ -37,6 +37,7 @@ use Rattle.slots.proofs.OnlyOne.{one-left}
 use Rattle.slots.proofs.TableSlots.{ReadSlot, ReadSlots, SortSlots}
 use Rattle.splits.specs.Choice.{lowestIn, onReadAt, onTermAt, readSplits, splitAt, splitBy, termSplits}
 use Rattle.splits.proofs.InOrder.{find-lowest}
+use Rattle.splits.proofs.Tests.{no-variants}
 use Rattle.splits.proofs.TermOrder.{numberOf, reads-rise, rowOf, terms-rise}
 
 -- ---- first kind
@@ -131,10 +132,6 @@ module _ (t : Table) (s : State) (small : Small s) (x : Term) (few : length (var
       first : (vs : List ℕ) → 2 ≤ length vs → getD vs 0 16 ≡ getD vs 0 0
       first [] h = absurd (omega arith)
       first (v ∷ vs) h = refl
-
-no-variants : length (variantsIn 0) ≡ 0
-unfolding variantsIn
-no-variants = refl
 
 -- a slot without a term splits nothing
 no-term : (sorts masks : List ℕ) (s : State) (k : ℕ) → sortAt sorts k ≡ 0 → getD masks 0 0 ≡ 0 → termSplits sorts masks s k ≡ true → ⊥

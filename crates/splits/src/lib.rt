@@ -5,6 +5,7 @@ ghost use Prim.Native.Nat.{_<_};
 ghost use Rattle.classes.specs.Held.{Held, state};
 ghost use Rattle.loops.specs.Lowest.{lowest};
 ghost use Rattle.slots.specs.Slots.{ReadsFit, SortsFit};
+ghost use Rattle.labelled.specs.Covers.{Covers, hasMask};
 ghost use Rattle.splits.specs.Choice.{choiceOf, lowestIn, readSplits, splitBy, termSplits};
 use slots::label_at;
 use slots::wide;
@@ -76,23 +77,28 @@ fn term_splits(
     labels::size(label) >= 2
 }
 
-// The lowest term whose label holds two or more variants, all fieldless; 78 if there is none.
+// The lowest term whose label holds two or more variants, all fieldless, of a list that leaves out none whose type has a
+// fieldless variant; 78 if there is none.
 fn second_kind(
     classes: &[u8; 96],
     labels: &[u16; 96],
     sorts: &[u8; 96],
     fieldless: &[u16; 8],
+    labelled: &[u8; 96],
+    count: usize,
 ) -> usize
     requires { ⌜ Held (now classes) ⌝ }
     requires { ⌜ SortsFit (now sorts) ⌝ }
+    requires { ⌜ Covers (hasMask (now sorts) (now fieldless)) 78 (now labelled) count ⌝ }
     ensures { λ r. ⌜ r ≡ lowest (termSplits (now (sorts .entry)) (now (fieldless .entry)) (state (now (classes .entry)) (now (labels .entry)))) 78 ⌝ }
 {
-    let mut x: usize = 0;
-    while x < 78 {
+    let mut i: usize = 0;
+    while i < count {
+        let x = labelled[i] as usize;
         if term_splits(classes, labels, sorts, fieldless, x) {
             return x;
         }
-        x += 1;
+        i += 1;
     }
     78
 }
@@ -118,17 +124,20 @@ pub fn split(
     reads: &[u16; 96],
     sorts: &[u8; 96],
     fieldless: &[u16; 8],
+    labelled: &[u8; 96],
+    count: usize,
 ) -> Choice
     requires { ⌜ Held (now classes) ⌝ }
     requires { ⌜ ReadsFit (now reads) ⌝ }
     requires { ⌜ SortsFit (now sorts) ⌝ }
+    requires { ⌜ Covers (hasMask (now sorts) (now fieldless)) 78 (now labelled) count ⌝ }
     ensures { λ r. ⌜ r ≡ choiceOf (splitBy (now (reads .entry)) (now (sorts .entry)) (now (fieldless .entry)) (state (now (classes .entry)) (now (labels .entry)))) ⌝ }
 {
     let k = first_kind(classes, labels, reads);
     if k < 24 {
         return decide(word(reads[4 * k]), reads[4 * k + 2]);
     }
-    let x = second_kind(classes, labels, sorts, fieldless);
+    let x = second_kind(classes, labels, sorts, fieldless, labelled, count);
     if x < 78 {
         return decide(x, label_at(classes, labels, x));
     }

@@ -26,14 +26,14 @@ use Rattle.search.proofs.is_closed.Reads as is-closed-reads′
 use Rattle.search.proofs.left_of.Reads as left-of-reads
 use Rattle.search.proofs.+visit.Tie.{close}
 
-abbrev μ-visit : Measures 12 visit-kinds.ps ℕ
+abbrev μ-visit : Measures 13 visit-kinds.ps ℕ
 μ-visit κs a = labelSum (state (a .0 .now) (a .1 .0 .now))
 
-abbrev visit-at : ℕ → In 12 visit-kinds.ps
-visit-at t = and 12 visit-kinds.ps (is 12 visit-kinds.ps μ-visit t) visit.Pre
+abbrev visit-at : ℕ → In 13 visit-kinds.ps
+visit-at t = and 13 visit-kinds.ps (is 13 visit-kinds.ps μ-visit t) visit.Pre
 
-abbrev visit-below : ℕ → In 12 visit-kinds.ps
-visit-below t = and 12 visit-kinds.ps (falls 12 visit-kinds.ps _<_ μ-visit t) visit.Pre
+abbrev visit-below : ℕ → In 13 visit-kinds.ps
+visit-below t = and 13 visit-kinds.ps (falls 13 visit-kinds.ps _<_ μ-visit t) visit.Pre
 
 -- what the callees are handed and give
 abbrev calls : ℕ → visit-lts.Claims
@@ -65,15 +65,15 @@ visit-returns t c =
 visit-saturate-requires : (t : ℕ) → visit-lts.Need-saturate-requires (calls t) (visit-at t) visit.Post
 visit-saturate-requires t c κs =
     let p = c .before .before .before .pre .1 in
-    (p .0 .held, (p .1 .shapesFit, p .1 .readsFit, p .1 .sortsFit))
+    (p .0 .held, ((p .1 .shapesFit, p .1 .readsFit, p .1 .sortsFit), (p .1 .coversFull, p .1 .coversFieldless)))
 
 visit-is-closed-requires : (t : ℕ) → visit-lts.Need-is-closed-requires (calls t) (visit-at t) visit.Post
 visit-is-closed-requires t c κs =
     let p = c .before .before .before .before .before .before .pre .1 in
-    (c .before .before .saturate .ensures .1, (p .1 .shapesFit, (p .1 .sortsFit, (p .1 .linesFit, p .1 .fewLines))))
+    (c .before .before .saturate .ensures .1, (p .1 .shapesFit, (p .1 .sortsFit, (p .1 .coversFull, (p .1 .linesFit, p .1 .fewLines)))))
 
-visit-sub-t27 : (t : ℕ) → visit-lts.Need-sub-t27 (calls t) (visit-at t) visit.Post
-visit-sub-t27 t c = omega (arith, c .before .before .before .before .before .before .before .if1 .left)
+visit-sub-t29 : (t : ℕ) → visit-lts.Need-sub-t29 (calls t) (visit-at t) visit.Post
+visit-sub-t29 t c = omega (arith, c .before .before .before .before .before .before .before .if1 .left)
 
 visit-returns-2 : (t : ℕ) → visit-lts.Need-returns-2 (calls t) (visit-at t) visit.Post
 visit-returns-2 t c =
@@ -87,10 +87,10 @@ visit-returns-2 t c =
 visit-split-requires : (t : ℕ) → visit-lts.Need-split-requires (calls t) (visit-at t) visit.Post
 visit-split-requires t c κs =
     let p = c .before .before .before .before .before .before .before .before .before .before .pre .1 in
-    (c .before .before .before .before .before .before .saturate .ensures .1, (p .1 .readsFit, p .1 .sortsFit))
+    (c .before .before .before .before .before .before .saturate .ensures .1, (p .1 .readsFit, (p .1 .sortsFit, p .1 .coversFieldless)))
 
-visit-sub-t30 : (t : ℕ) → visit-lts.Need-sub-t30 (calls t) (visit-at t) visit.Post
-visit-sub-t30 t c = omega (arith, c .before .before .before .before .before .before .before .before .before .before .before .before .if1 .left)
+visit-sub-t32 : (t : ℕ) → visit-lts.Need-sub-t32 (calls t) (visit-at t) visit.Post
+visit-sub-t32 t c = omega (arith, c .before .before .before .before .before .before .before .before .before .before .before .before .if1 .left)
 
 visit-returns-3 : (t : ℕ) → visit-lts.Need-returns-3 (calls t) (visit-at t) visit.Post
 visit-returns-3 t c =
@@ -232,10 +232,10 @@ pub +visit-spec : {M : Type 1} → statement M
     (visit-returns t)
     (visit-saturate-requires t)
     (visit-is-closed-requires t)
-    (visit-sub-t27 t)
+    (visit-sub-t29 t)
     (visit-returns-2 t)
     (visit-split-requires t)
-    (visit-sub-t30 t)
+    (visit-sub-t32 t)
     (visit-returns-3 t)
     (visit-cast-only t)
     (visit-only-requires t)
