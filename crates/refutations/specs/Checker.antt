@@ -6,7 +6,6 @@ use Rattle.guard.specs.Closure.{closureOf}
 use Rattle.guard.specs.File.{file}
 use Rattle.guard.specs.Guard.{Guard, Literal, Literal.is, Literal.isnt}
 use Rattle.guard.specs.Limits.{Limits}
-use Rattle.guard.specs.Node.{Split}
 use Rattle.guard.specs.Number.{Parsed, Parsed.accepted, Parsed.refused, Parser, _>>=_, _>>_, andThen, ask, return, unsigned}
 use Rattle.guard.specs.Search.{labelTotal}
 use Rattle.guard.specs.Terms.{Table, tableOf}
