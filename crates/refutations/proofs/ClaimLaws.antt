@@ -71,7 +71,7 @@ line-of lines s j e =
 -- ---- closings
 
 -- what holds of the closings of each kind
-closings-all : {P : Entry → Type 0} (many : ℕ) → ((i : ℕ) → i < termCount → P (empty i)) → ((j : ℕ) → j < many → P (unequalLine j))
+pub closings-all : {P : Entry → Type 0} (many : ℕ) → ((i : ℕ) → i < termCount → P (empty i)) → ((j : ℕ) → j < many → P (unequalLine j))
     → ((i : ℕ) → i < termCount → P (unlike i)) → ((i : ℕ) → i < termCount → P (inside i)) → All P (closings many)
 closings-all {P = P} many a b c d =
     all-append (below empty termCount a) (all-append (below unequalLine many b) (all-append (below unlike termCount c) (below inside termCount d)))

@@ -1,3 +1,5 @@
 pub mod Parsers
 pub mod ClaimLaws
 pub mod AcceptedDead
+pub mod EntryBack
+pub mod RecordAccepted
