@@ -3,3 +3,4 @@ pub mod ClaimLaws
 pub mod AcceptedDead
 pub mod EntryBack
 pub mod RecordAccepted
+pub mod Depth
