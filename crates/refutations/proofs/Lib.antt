@@ -4,3 +4,4 @@ pub mod AcceptedDead
 pub mod EntryBack
 pub mod RecordAccepted
 pub mod Depth
+pub mod Theorems
