@@ -4,4 +4,5 @@ pub mod AcceptedDead
 pub mod EntryBack
 pub mod RecordAccepted
 pub mod Depth
+pub mod LowestClosing
 pub mod Theorems
