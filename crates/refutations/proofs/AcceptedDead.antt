@@ -23,7 +23,7 @@ use Rattle.soundness.proofs.TermValues.{termValue}
 use Rattle.refutations.specs.Checker.{below, check, checkFrom, checkNode, checkTo, entry, noMore}
 use Rattle.refutations.specs.Record.{Entry, Entry.empty, Entry.inside, Entry.splitOn, Entry.unequalLine, Entry.unlike, claim, lineAt}
 use Rattle.refutations.proofs.ClaimLaws.{OverLines, is-over, isnt-over, line-of, root-over, split-claimed, term-of}
-use Rattle.refutations.proofs.Parsers.{ask-inv, bind-inv, not-accepted}
+use Rattle.encoding.proofs.Parsers.{ask-inv, bind-inv, not-accepted}
 
 -- an accepted node has an entry, its claim holds, and what follows it is accepted
 node-inv : (holds : Entry → Bool) (child : Literal → Parser (Unit {0})) (bs : List ℕ) (u : Unit {0}) (rest : List ℕ) → checkNode holds child bs ≡ accepted u rest

@@ -1,8 +1,8 @@
 -- Claims of entries: a claim names a term of the table; a node has a closing exactly if it is closed; a split that is claimed is
 -- one. Assumes nothing.
 use mathlib.Core.Path.{_≡_, refl, ap, sym, _∙_, subst}
-use mathlib.Core.Bool.{Bool, true, false, false≢true}
-use mathlib.Core.List.{List, _∷_, map, List·Memᴰ, List·Memᴰ·head, List·Memᴰ·tail, Memᴰ·append-left, Memᴰ·append-right}
+use mathlib.Core.Bool.{Bool, true, false, _&&_, _||_, false≢true}
+use mathlib.Core.List.{List, [], _∷_, map, List·Memᴰ, List·Memᴰ·head, List·Memᴰ·tail, Memᴰ·append-left, Memᴰ·append-right}
 use mathlib.Core.Option.{none, some}
 use Prim.Native.Nat.{ℕ, _^_, _≤_, _<_}
 use native.Mathlib.Omega.{arith}
@@ -11,7 +11,7 @@ use lib.ListN.{length, List·getD-eq-default}
 use lib.Pow.{pow-mono}
 use borrow.Author.Tests.{eq-eqb, eqb-true, ltb-false, ltb-true}
 use Rattle.laws.specs.All.{All}
-use Rattle.laws.specs.Lists.{any, from}
+use Rattle.laws.specs.Lists.{any, consIf, filter, from}
 use Rattle.laws.proofs.Bits.{bit-le}
 use Rattle.laws.proofs.Bools.{by-test, either, or-cases, or-left, or-right}
 use Rattle.laws.proofs.Lists.{all-append, all-getD, all-map, all-mem, all-of, any-of, any-some, filter-is, filter-mem, find-none, find-some, from-bounds, mem-from, mem-map}
@@ -21,8 +21,10 @@ use Rattle.guard.specs.Guard.{Literal, Literal.equal, Literal.is, Literal.isnt,
 use Rattle.guard.specs.Limits.{variantLimit}
 use Rattle.guard.specs.Node.{Split, broken, emptyLabel, holdsAnother, insideItself, isClosed, unlikeConstants}
 use Rattle.guard.specs.Terms.{Table, Term, termCount}
-use Rattle.guard.proofs.ClosureBelow.{InRange}
+use Rattle.guard.specs.Types.{variantsOf}
+use Rattle.guard.proofs.ClosureBelow.{InRange, LiteralsInRange}
 use Rattle.guard.proofs.ClosureState.{closure-small}
+use Rattle.guard.proofs.LeastClosure.{closure-least}
 use Rattle.guard.proofs.NodeLaws.{SplitsAt, holds-it}
 use Rattle.refutations.specs.Record.{Entry, Entry.empty, Entry.inside, Entry.splitOn, Entry.unequalLine, Entry.unlike, claim, closing, closings, lineAt, named}
 
@@ -61,6 +63,19 @@ module _ (t : Table) (p : Term → Bool) where
 
   pub of-term : (x : Term) → List·Memᴰ x (t .terms) → p x ≡ true → any p (named t (x .term)) ≡ true
   of-term x m h = any-of p (named t (x .term)) x (filter-mem (λ y. eqb (y .term) (x .term)) (t .terms) x m (eq-eqb (x .term) (x .term) refl)) h
+
+  -- the same over all terms
+  pub any-named : (i : ℕ) → any p (named t i) ≡ any (λ x. eqb (x .term) i && p x) (t .terms)
+  any-named i = go (t .terms)
+    where
+      go : (xs : List Term) → any p (filter (λ x. eqb (x .term) i) xs) ≡ any (λ x. eqb (x .term) i && p x) xs
+      go [] = refl
+      go (x ∷ xs) = step (eqb (x .term) i) (go xs)
+        where
+          step : (b : Bool) → any p (filter (λ x. eqb (x .term) i) xs) ≡ any (λ x. eqb (x .term) i && p x) xs
+              → any p (consIf b x (filter (λ x. eqb (x .term) i) xs)) ≡ (b && p x || any (λ x. eqb (x .term) i && p x) xs)
+          step true e = ap (λ (y : Bool). p x || y) e
+          step false e = e
 
 -- the line that a claim is about
 pub line-of : (lines : List Literal) (s : State) (j : ℕ) → broken s (lineAt lines j) ≡ true → List·Memᴰ (lineAt lines j) lines
@@ -158,3 +173,10 @@ module _ (t : Table) (lines ls : List Literal) (d : Split) where
 
   pub split-claims : SplitsAt t (closureOf t ls) d → claim t lines (closureOf t ls) (splitOn d) ≡ true
   split-claims sp = of-term t (λ x. holdsAnother (closureOf t ls) (x .term) (d .variant)) (record { term = d .term; type = sp .type }) (sp .term) (sp .another)
+
+  -- the variant is one of the term's type, which so is no number type
+  pub split-in-type : InRange t → LiteralsInRange ls → (sp : SplitsAt t (closureOf t ls) d) → d .variant < length (variantsOf (t .types) (sp .type))
+  split-in-type range r sp =
+      by-test (ltb (d .variant) (length (variantsOf (t .types) (sp .type)))) (λ l. ltb-true _ _ l)
+      (λ l. absurd (holds-it (closureOf t ls) (d .term) (d .variant) (sp .another)
+      (closure-least t ls range r .rules .beyond (record { term = d .term; type = sp .type }) (d .variant) (sp .term) (ltb-false (d .variant) _ l))))

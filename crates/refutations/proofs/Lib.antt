@@ -1,4 +1,3 @@
-pub mod Parsers
 pub mod ClaimLaws
 pub mod AcceptedDead
 pub mod EntryBack

@@ -26,7 +26,7 @@ use Rattle.refutations.specs.Checker.{below, check, checkFrom, checkNode
 use Rattle.refutations.specs.Record.{Entry, Entry.splitOn, bytesOf, claim, closing, closings, entries, entriesTo, recordBytes, recordOf}
 use Rattle.refutations.proofs.ClaimLaws.{OverLines, closing-closed, closing-is, closing-none, closings-all, is-over, isnt-over, root-over, split-claims}
 use Rattle.refutations.proofs.EntryBack.{Small, entry-back, few-bytes}
-use Rattle.refutations.proofs.Parsers.{not-accepted}
+use Rattle.encoding.proofs.Parsers.{not-accepted}
 
 -- ---- one node of the checker
 

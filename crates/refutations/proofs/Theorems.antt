@@ -16,7 +16,7 @@ use Rattle.guard.proofs.Claims.{Accepts, accepts-all, well-formed}
 use Rattle.refutations.specs.Checker.{check, checkFrom, checked, noMore}
 use Rattle.refutations.specs.Record.{recordBytes, recordOf}
 use Rattle.refutations.proofs.AcceptedDead.{accepted-dead}
-use Rattle.refutations.proofs.Parsers.{bind-inv, not-accepted}
+use Rattle.encoding.proofs.Parsers.{bind-inv, not-accepted}
 use Rattle.refutations.proofs.RecordAccepted.{record-accepted, record-bytes, record-length}
 
 module _ (limits : Limits) (bytes written : List ℕ) where

@@ -52,12 +52,12 @@ abbrev pub checkNode : (Entry → Bool) → (Literal → Parser (Unit {0})) → 
 checkNode holds child [] = refused 13
 checkNode holds child (b ∷ bs) = (entry >>= λ e. ask 12 (holds e) >> below child e) (b ∷ bs)
 
--- the check from a node with its literals and decisions, at most so deep; "accepts any split whose label holds the variant
--- and another", so the total of the label sizes is depth enough
+-- the check from a node with its literals and decisions, at most so deep
 unfoldable pub checkTo : ℕ → Table → List Literal → List Literal → Parser (Unit {0})
 checkTo zero t lines ls bs = refused 12
 checkTo (suc k) t lines ls bs = let s = closureOf t ls in checkNode (claim t lines s) (λ d. checkTo k t lines (d ∷ ls)) bs
 
+-- the total of the label sizes falls at every split that "holds the variant and another", so it is depth enough
 unfoldable pub checkFrom : Table → List Literal → List Literal → Parser (Unit {0})
 checkFrom t lines ls bs = checkTo (suc (labelTotal t (closureOf t ls))) t lines ls bs
 

@@ -49,8 +49,8 @@ named t i = filter (λ x. eqb (x .term) i) (t .terms)
 abbrev pub lineAt : List Literal → ℕ → Literal
 lineAt lines j = getD lines j (equal 0 0)
 
--- The claim of an entry at a node with this state; `lines` are the guard's own. A split is on a "label [that] holds the
--- variant and another"; a term of number type has no variant in its label.
+-- The claim of an entry at a node with this state; `lines` are the guard's own. "any split whose label holds the variant and
+-- another": so its term is of variant type, since there are no variants in the label of one of number type.
 abbrev pub claim : Table → List Literal → State → Entry → Bool
 claim t lines s (empty i) = any (emptyLabel t s) (named t i)
 claim t lines s (unequalLine j) = broken s (lineAt lines j)
