@@ -3,7 +3,7 @@ use mathlib.Core.Path.{_≡_, refl}
 use mathlib.Core.List.{List, [], _∷_, _++_, map}
 use Prim.Native.Nat.{ℕ}
 use lib.Count.{ones, onesIn}
-use Rattle.guard.specs.Cases.{fileE, fileG, fileH, fileJ}
+use Rattle.guard.specs.Cases.{X, fileE, fileG, fileH, fileJ}
 use Rattle.guard.specs.Closure.{closureOf, consequences, initial, saturate}
 use Rattle.guard.specs.File.{file}
 use Rattle.guard.specs.Guard.{Guard}
@@ -24,13 +24,18 @@ pub record Case : Type 0 where
 abbrev yes : Parsed (Unit {0})
 yes = accepted tt []
 
--- cases e, g, h and j with their records
+-- a list that is nil and is cons
+abbrev pub fileBoth : List ℕ
+fileBoth = X ++ (0x01 ∷ 0x00 ∷ 0x01 ∷ 0x02 ∷ 0x02 ∷ 0x00 ∷ 0x00 ∷ 0x02 ∷ 0x00 ∷ 0x01 ∷ [])
+
+-- cases e, g, h and j with their records, and one for an empty label
 abbrev pub recorded : List Case
 recorded =
     record { bytes = fileE; written = 0x03 ∷ 0x00 ∷ []; answer = yes }
     ∷ record { bytes = fileG; written = 0x01 ∷ 0x00 ∷ []; answer = yes }
     ∷ record { bytes = fileH; written = 0x04 ∷ 0x00 ∷ 0x00 ∷ 0x04 ∷ 0x01 ∷ 0x00 ∷ 0x01 ∷ 0x00 ∷ 0x04 ∷ 0x02 ∷ 0x00 ∷ 0x01 ∷ 0x01 ∷ 0x01 ∷ 0x02 ∷ 0x04 ∷ 0x01 ∷ 0x00 ∷ 0x04 ∷ 0x02 ∷ 0x00 ∷ 0x01 ∷ 0x02 ∷ 0x01 ∷ 0x01 ∷ 0x01 ∷ 0x00 ∷ []; answer = yes }
     ∷ record { bytes = fileJ; written = 0x02 ∷ 0x00 ∷ []; answer = yes }
+    ∷ record { bytes = fileBoth; written = 0x00 ∷ 0x00 ∷ []; answer = yes }
     ∷ []
 
 abbrev pub recordFor : Parsed Guard → List ℕ
@@ -66,6 +71,8 @@ others =
     ∷ record { bytes = fileE; written = 0x02 ∷ 0x00 ∷ []; answer = refused 12 }
     ∷ record { bytes = fileG; written = 0x03 ∷ 0x00 ∷ []; answer = refused 12 }
     ∷ record { bytes = fileH; written = 0x04 ∷ 0x00 ∷ 0x02 ∷ []; answer = refused 12 }
+    -- a default of number type has no label
+    ∷ record { bytes = fileBoth; written = 0x00 ∷ 0x48 ∷ []; answer = refused 12 }
     -- a term, a line that is not there
     ∷ record { bytes = fileE; written = 0x03 ∷ 0x02 ∷ []; answer = refused 12 }
     ∷ record { bytes = fileG; written = 0x01 ∷ 0x03 ∷ []; answer = refused 12 }
