@@ -57,12 +57,14 @@ module _ (shapes reads sorts full fieldless : List ℕ) {s : State} where
   pub stopped : {s′ : State} (x : ℕ) → x ≡ lowest (emptyAt sorts full s′) 78 → ¬ (x ≡ 78) → Steps (allDue shapes reads sorts fieldless) s s′ → Settled shapes reads sorts full fieldless s s′
   stopped x e n p = record { steps = p; quiet = λ q. absurd (n (e ∙ q)) }
 
-  -- one more pass, which changed nothing
-  pub last-round : {s′ s″ : State} (r : Bool) → r ≡ false → Steps (allDue shapes reads sorts fieldless) s s′ → Pass (allDue shapes reads sorts fieldless) s′ s″ r
-      → Settled shapes reads sorts full fieldless s s″
-  last-round r e p q =
-      let (same-state, held) = q .quiet e in
-      record { steps = steps-on p (q .steps); quiet = λ _. subst (λ (z : State). All (λ f. holds z f ≡ true) (allDue shapes reads sorts fieldless z)) (sym same-state) held }
+  pub settled : {s′ : State} → Saturated (allDue shapes reads sorts fieldless) s s′ → Settled shapes reads sorts full fieldless s s′
+  settled t = record { steps = t .steps; quiet = λ _. t .quiet }
+
+-- one more pass, which changed nothing
+pub last-round : {due : Due} {s s′ s″ : State} (r : Bool) → r ≡ false → Steps due s s′ → Pass due s′ s″ r → Saturated due s s″
+last-round {due = due} r e p q =
+    let (same-state, held) = q .quiet e in
+    record { steps = steps-on p (q .steps); quiet = subst (λ (z : State). All (λ f. holds z f ≡ true) (due z)) (sym same-state) held }
 
 -- without an empty label all that is due holds
 pub saturated : {shapes reads sorts full fieldless : List ℕ} {s s′ : State} → Settled shapes reads sorts full fieldless s s′ → lowest (emptyAt sorts full s′) 78 ≡ 78

@@ -1,6 +1,6 @@
 // The closure of a node: the passes of all families of rules, until nothing is new or a label is empty.
 ghost use Rattle.classes.specs.Held.{Held, state};
-ghost use Rattle.passes.specs.Pass.{Pass};
+ghost use Rattle.passes.specs.Pass.{Pass, Saturated};
 ghost use Rattle.slots.specs.Slots.{ReadsFit, ShapesFit, SortsFit};
 ghost use Rattle.labelled.specs.Covers.{Covers, hasMask};
 ghost use Rattle.saturation.specs.Due.{Settled, allDue};
@@ -66,4 +66,33 @@ pub fn saturate(
             return;
         }
     }
+}
+
+// Adds what the rules give until nothing is new, empty labels or not: the whole closure, for the record of a refutation.
+pub fn saturate_fully(
+    classes: &mut [u8; 96],
+    labels: &mut [u16; 96],
+    shapes: &[u16; 256],
+    reads: &[u16; 96],
+    sorts: &[u8; 96],
+    fieldless: &[u16; 8],
+    labelled: &[u8; 96],
+    count: usize,
+)
+    requires { ⌜ Held (now classes) ⌝ }
+    requires { ⌜ ShapesFit (now shapes) × ReadsFit (now reads) × SortsFit (now sorts) ⌝ }
+    requires { ⌜ Covers (hasMask (now sorts) (now fieldless)) 78 (now labelled) count ⌝ }
+    ensures { λ _. ⌜ Saturated (allDue (now (shapes .entry)) (now (reads .entry)) (now (sorts .entry)) (now (fieldless .entry))) (state (now (classes .entry)) (now (labels .entry))) (state (now (classes .exit)) (now (labels .exit))) ⌝ }
+    ensures { λ _. ⌜ Held (now (classes .exit)) ⌝ }
+{
+    while advance(
+        classes,
+        labels,
+        shapes,
+        reads,
+        sorts,
+        fieldless,
+        labelled,
+        count,
+    ) {}
 }

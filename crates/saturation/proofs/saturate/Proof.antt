@@ -5,7 +5,7 @@ use Rattle.classes.specs.Held.{Held, state}
 use Rattle.passes.specs.Pass.{Steps, Steps.done}
 use Rattle.passes.proofs.PassLaws.{steps-on}
 use Rattle.saturation.specs.Due.{allDue}
-use Rattle.saturation.proofs.Rounds.{last-round, stopped}
+use Rattle.saturation.proofs.Rounds.{last-round, settled, stopped}
 use Rattle.saturation.proofs.saturate.Statement.{statement}
 use Rattle.saturation.proofs.saturate.Tie as tie
 
@@ -33,7 +33,7 @@ returns : tie.Need-returns Inv-loop μ-loop
 returns c =
     let a = c .before .before .before .before .before .before .before .before .before .args in
     let v = c .before .advance in
-    (last-round (a .shapes .now) (a .reads .now) (a .sorts .now) (a .full .now) (a .fieldless .now) (v .result) (not-true _ (c .if2 .taken)) (c .before .before .before .before .before .before .before .before .loop .inv .0) (v .ensures .0), v .ensures .1)
+    (settled (a .shapes .now) (a .reads .now) (a .sorts .now) (a .full .now) (a .fieldless .now) (last-round (v .result) (not-true _ (c .if2 .taken)) (c .before .before .before .before .before .before .before .before .loop .inv .0) (v .ensures .0)), v .ensures .1)
 
 loop-less : tie.Need-loop-less Inv-loop μ-loop
 loop-less c = c .before .advance .ensures .0 .falls (not-false _ (c .if2 .left))

@@ -1,0 +1,34 @@
+-- `saturate_fully` meets its contract. Invariant: what is due was added; the state falls with each round. Assumes nothing.
+use Rattle.guard.specs.Closure.{size}
+use Rattle.classes.specs.Held.{Held, state}
+use Rattle.passes.specs.Pass.{Steps, Steps.done}
+use Rattle.passes.proofs.PassLaws.{steps-on}
+use Rattle.saturation.specs.Due.{allDue}
+use Rattle.saturation.proofs.Rounds.{last-round}
+use Rattle.saturation.proofs.saturate_fully.Statement.{statement}
+use Rattle.saturation.proofs.saturate_fully.Tie as tie
+
+abbrev Inv-loop : tie.InvT-loop
+Inv-loop classes₀ labels₀ shapes reads sorts fieldless labelled count classes labels = Steps (allDue shapes reads sorts fieldless) (state classes₀ labels₀) (state classes labels) × Held classes
+
+abbrev μ-loop : tie.MeasureT-loop
+μ-loop classes₀ labels₀ shapes reads sorts fieldless labelled count classes labels = size (state classes labels)
+
+loop-holds : tie.Need-loop-holds Inv-loop μ-loop
+loop-holds c = (done, c .pre .0)
+
+advance-requires : tie.Need-advance-requires Inv-loop μ-loop
+advance-requires c κs = (c .before .before .loop .inv .1, c .before .before .before .pre .1)
+
+loop-less : tie.Need-loop-less Inv-loop μ-loop
+loop-less c = c .before .advance .ensures .0 .falls (c .if1 .taken)
+
+loop-again : tie.Need-loop-again Inv-loop μ-loop
+loop-again c = (steps-on (c .before .before .before .before .loop .inv .0) (c .before .advance .ensures .0 .steps), c .before .advance .ensures .1)
+
+returns : tie.Need-returns Inv-loop μ-loop
+returns c = (last-round (c .before .advance .result) (c .if1 .left) (c .before .before .before .before .loop .inv .0) (c .before .advance .ensures .0), c .before .advance .ensures .1)
+
+pub saturate-fully-spec : {M : Type 1} → statement M
+saturate-fully-spec =
+    tie.close (tie.spec Inv-loop μ-loop loop-holds advance-requires loop-less loop-again returns)
