@@ -5,7 +5,7 @@ ghost use Rattle.slots.specs.Slots.{ShapesFit};
 ghost use Rattle.cycles.specs.Cycles.{Inside, LowestOf, Tells};
 
 // Whether term `x` is there and its class is a part of itself: it is among the parts of itself and of what these have.
-fn is_inside(
+pub fn is_inside(
     classes: &[u8; 96],
     labels: &[u16; 96],
     shapes: &[u16; 256],

@@ -11,8 +11,8 @@ use slots::wide;
 
 // ---- empty labels
 
-// A number type has no variants, and its label is not looked at.
-fn is_empty(
+// Whether the label of a term is empty; a number type has no variants, and its label is not looked at.
+pub fn is_empty(
     classes: &[u8; 96],
     labels: &[u16; 96],
     sorts: &[u8; 96],
@@ -57,7 +57,8 @@ pub fn empty_label(
 
 // ---- unequal lines
 
-fn is_broken(
+// Whether literal `j` is an unequal line whose two terms are equal.
+pub fn is_broken(
     classes: &[u8; 96],
     kinds: &[u8; 64],
     terms: &[u8; 64],
