@@ -24,8 +24,8 @@ use Rattle.theory.proofs.Theorems.{closed-unsatisfiable}
 use Rattle.reader.specs.Reader.{tablesAt}
 use Rattle.reader.specs.declared.Tables.{Tables}
 use Rattle.decide.specs.Decides.{Decides}
-use Rattle.decide.specs.Parts.{AnswersTables}
-use Rattle.decide.proofs.Cleared.{long-zero}
+use Rattle.searchanswer.specs.Searched.{AnswersTables}
+use Rattle.cleared.proofs.Cleared.{long-zero}
 use Rattle.search.proofs.TablesRead.{guard-accepted, guard-tables, refused-file, taken-file}
 
 -- ---- verdicts and visits

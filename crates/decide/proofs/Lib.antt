@@ -1,6 +1,2 @@
-pub mod Cleared
-pub mod Drawn
-pub mod OpenAnswer
-pub mod SearchAnswer
 pub mod Decided
 pub mod Corollaries

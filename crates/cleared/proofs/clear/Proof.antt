@@ -6,9 +6,9 @@ use native.Mathlib.Omega.{arith}
 use lib.IntN.{ℤ, pos}
 use lib.ListN.{length, set, drop, replicate, length-set}
 use borrow.Author.Needs.{needs}
-use Rattle.decide.proofs.Cleared.{zero-all, zero-next}
-use Rattle.decide.proofs.clear.Statement.{statement}
-use Rattle.decide.proofs.clear.Tie as tie
+use Rattle.cleared.proofs.Cleared.{zero-all, zero-next}
+use Rattle.cleared.proofs.clear.Statement.{statement}
+use Rattle.cleared.proofs.clear.Tie as tie
 
 abbrev Inv-loop : tie.InvT-loop
 Inv-loop numbers₀ i₀ numbers i = (i ≤ length numbers₀) × (length numbers ≡ length numbers₀) × (numbers ≡ replicate i (pos 0) ++ drop i numbers₀)

@@ -1,12 +1,10 @@
--- What the parts of the call give: the answer at an open node, and the answer to the tables of a guard. Assumes nothing:
--- definitions.
+-- What the answer to the tables of a guard gives. Assumes nothing: definitions.
 use mathlib.Core.Path.{_≡_}
 use mathlib.Core.List.{List}
 use Prim.Native.Nat.{ℕ}
 use lib.IntN.{ℤ, pos}
 use lib.ListN.{length, replicate}
 use Rattle.guard.specs.Answer.{Outcome.sat, outcomeOf, rowsOf, withBudget}
-use Rattle.guard.specs.Closure.{State}
 use Rattle.guard.specs.Guard.{Guard}
 use Rattle.guard.specs.Limits.{base}
 use Rattle.guard.specs.Search.{searchOf}
@@ -14,14 +12,7 @@ use Rattle.guard.specs.Shown.{Shows}
 use Rattle.guard.specs.declared.Answer.{Answer}
 use Rattle.reader.specs.Reader.{guardTables}
 use Rattle.reader.specs.declared.Tables.{Tables}
-use Rattle.search.specs.Nodes.{Accepted, OpenLeaf}
-
--- at an open node: SAT with that many nodes, and the buffers show messages
-pub record AnswersOpen (tables : Tables) (s : State) (nodes : ℕ) (rows places : List ℤ) (r : Answer) (rows′ places′ : List ℤ) : Type 0 where
-  pub says : outcomeOf r ≡ sat nodes
-  pub longRows : length rows′ ≡ length rows
-  pub longPlaces : length places′ ≡ length places
-  pub shown : (g : Guard) → Accepted g → tables ≡ guardTables g → OpenLeaf g s → Shows base g (rowsOf r) rows′ places′
+use Rattle.search.specs.Nodes.{Accepted}
 
 -- the answer to the tables of a guard that a reader took
 pub record AnswersTables (tables : Tables) (budget : ℕ) (rows places : List ℤ) (r : Answer) (rows′ places′ : List ℤ) : Type 0 where

@@ -16,9 +16,9 @@ use Rattle.reader.specs.Reader.{guardTables}
 use Rattle.reader.specs.declared.Tables.{Tables}
 use Rattle.search.specs.Nodes.{Accepted, OpenLeaf}
 use Rattle.messages.specs.Messages.{Draws, DrawsFor, OpenTables}
-use Rattle.decide.specs.Parts.{AnswersOpen}
-use Rattle.decide.proofs.Cleared.{part-cleared, zero-back, zero-front, zero-length, zeroFrom}
-use Rattle.decide.proofs.Drawn.{drawn-shows}
+use Rattle.openanswer.specs.Open.{AnswersOpen}
+use Rattle.cleared.proofs.Cleared.{part-cleared, zero-back, zero-front, zero-length, zeroFrom}
+use Rattle.openanswer.proofs.Drawn.{drawn-shows}
 
 table-terms : (g : Guard) → guardTables g .rows .many ≡ length (g .rows)
 unfolding guardTables rowTable

@@ -19,8 +19,9 @@ use Rattle.search.specs.Outcome as found
 use Rattle.search.specs.declared.Outcome.{Outcome}
 use Rattle.search.proofs.Budgets.{closed-count, open-count, spent-below}
 use Rattle.messages.specs.Messages.{OpenTables}
-use Rattle.decide.specs.Parts.{AnswersOpen, AnswersTables}
-use Rattle.decide.proofs.Cleared.{long-zero}
+use Rattle.openanswer.specs.Open.{AnswersOpen}
+use Rattle.searchanswer.specs.Searched.{AnswersTables}
+use Rattle.cleared.proofs.Cleared.{long-zero}
 
 module _ (tables : Tables) (budget : ℕ) (o : Outcome) (classes labels : List ℕ) (finds : Finds tables budget o classes labels) where
   outcome-is : (g : Guard) → Accepted g → tables ≡ guardTables g → o ≡ found.outcome (searchOf g) budget

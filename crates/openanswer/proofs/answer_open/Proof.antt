@@ -4,9 +4,9 @@ use native.Mathlib.Omega.{arith}
 use lib.ListN.{length}
 use borrow.Author.Needs.{needs}
 use Rattle.classes.specs.Held.{state}
-use Rattle.decide.proofs.OpenAnswer.{drawn-fits, open-answered}
-use Rattle.decide.proofs.answer_open.Statement.{statement}
-use Rattle.decide.proofs.answer_open.Tie as tie
+use Rattle.openanswer.proofs.OpenAnswer.{drawn-fits, open-answered}
+use Rattle.openanswer.proofs.answer_open.Statement.{statement}
+use Rattle.openanswer.proofs.answer_open.Tie as tie
 
 draw-requires : tie.Need-draw-requires
 draw-requires c κs = let start = c .before .before in (start .pre .0, (start .pre .1 .0, (start .pre .1 .1 .0, (start .pre .1 .1 .1 .0, start .pre .1 .1 .1 .1))))

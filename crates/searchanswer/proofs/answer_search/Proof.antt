@@ -1,9 +1,9 @@
 -- `answer_search`: the search's outcome is the answer; an open node has its messages drawn, else the buffers are cleared.
 -- Assumes nothing.
 use borrow.Author.Needs.{needs}
-use Rattle.decide.proofs.SearchAnswer.{answered-closed, answered-open, answered-spent, closed-within, open-tables, open-within}
-use Rattle.decide.proofs.answer_search.Statement.{statement}
-use Rattle.decide.proofs.answer_search.Tie as tie
+use Rattle.searchanswer.proofs.SearchAnswer.{answered-closed, answered-open, answered-spent, closed-within, open-tables, open-within}
+use Rattle.searchanswer.proofs.answer_search.Statement.{statement}
+use Rattle.searchanswer.proofs.answer_search.Tie as tie
 
 problem-of-requires : tie.Need-problem-of-requires
 problem-of-requires c κs = search needs

@@ -1,0 +1,45 @@
+// The answer to the tables of a guard: the search, and what it leaves in the buffers. `specs/Searched.antt` says what it gives.
+use cleared::clear_both;
+use guard::Answer;
+use openanswer::answer_open;
+use reader::Tables;
+use search::Outcome;
+ghost use Prim.Native.Nat.{_≤_};
+ghost use lib.ListN.{length};
+ghost use Rattle.search.specs.Nodes.{GuardsTables};
+ghost use Rattle.searchanswer.specs.Searched.{AnswersTables};
+
+// The answer to the tables of a guard, with the problem made once.
+pub fn answer_search(tables: Tables, budget: u32, rows: &mut [i32], places: &mut [i32]) -> Answer
+    requires { ⌜ GuardsTables tables ⌝ }
+    requires { ⌜ 16384 ≤ length (now rows) ⌝ }
+    requires { ⌜ 24 ≤ length (now places) ⌝ }
+    ensures { λ r. ⌜ AnswersTables tables budget (now (rows .entry)) (now (places .entry)) r (now (rows .exit)) (now (places .exit)) ⌝ }
+{
+    let problem = problem::problem_of(tables);
+    let mut classes = [0u8; 96];
+    let mut labels = [0u16; 96];
+    let o = search::search(tables, problem, budget, &mut classes, &mut labels);
+    match o {
+        Outcome::Open(left) => {
+            answer_open(
+                tables,
+                problem,
+                &classes,
+                &labels,
+                budget - left,
+                rows,
+                places,
+            )
+        }
+        Outcome::Closed(left) => {
+            let nodes = budget - left;
+            clear_both(rows, places);
+            Answer::Unsat { nodes }
+        }
+        Outcome::Spent => {
+            clear_both(rows, places);
+            Answer::Spent { budget }
+        }
+    }
+}
