@@ -1,5 +1,3 @@
-mod Arities
-mod RowTexts
 mod TablesShown
 mod AnswerKnown
 pub mod TextCases

@@ -17,9 +17,10 @@ use Rattle.tables.specs.Layout.{flat, rowTable, typeTable}
 use Rattle.tables.proofs.AcceptedTotal.{accepted-total}
 use Rattle.reader.specs.Reader.{asTables, guardTables, noTables, tablesAt}
 use Rattle.reader.specs.declared.Tables.{Tables}
-use Rattle.answertext.specs.Text.{fieldCount, rowLine, shownText, termLine, termsIn, typesIn}
-use Rattle.answertext.specs.Arity.{AritiesFit, arityIn}
-use Rattle.answertext.proofs.Arities.{field-count, table-fits}
+use Rattle.rowtext.specs.Rows.{rowLine}
+use Rattle.answertext.specs.Text.{shownText, termLine, termsIn, typesIn}
+use Rattle.rowtext.specs.Arity.{AritiesFit, arityIn, fieldCount}
+use Rattle.rowtext.proofs.Arities.{field-count, table-fits}
 
 -- tables of a file that was read so
 pub record TablesOf (t : Tables) (p : Parsed Guard) : Type 0 where

@@ -9,7 +9,8 @@ use Rattle.guard.specs.Limits.{base}
 use Rattle.guard.specs.declared.Answer.the-variants.{Sat}
 use Rattle.guard.proofs.ShownCase.{placesC, rowsC}
 use Rattle.writing.specs.Words.{ascii, decimal, numberText, signed}
-use Rattle.answertext.specs.Text.{answerText, madeText, partsText, rowBy, rowLine, rowText, shownText, termLine, valueText, verdictLine}
+use Rattle.rowtext.specs.Rows.{madeText, partsText, rowBy, rowLine, rowText, valueText}
+use Rattle.answertext.specs.Text.{answerText, shownText, termLine, verdictLine}
 
 -- "For file c `guarddesk` prints exactly"
 pub text-of-c : answerText (file base fileC) (Sat 3 1) rowsC placesC ≡ ascii "SAT 3\nrow 0 type 1 variant 0\nterm 0 row 0\nterm 1 row 0\n"

@@ -1,7 +1,6 @@
 // An answer as text: the verdict and its node count, or REFUSED and its number; after SAT each row, and each term with its
 // row. `specs/Text.antt` says what the text is.
 use guard::Answer;
-use tables::TypeTable;
 ghost use mathlib.Core.Path.{_≡_};
 ghost use Prim.Native.Nat.{_+_, _*_, _<_, _≤_};
 ghost use lib.ListN.{length};
@@ -10,115 +9,7 @@ ghost use Rattle.guard.specs.Answer.{rowsOf};
 ghost use Rattle.guard.specs.File.{file};
 ghost use Rattle.guard.specs.Limits.{base};
 ghost use Rattle.writing.specs.Written.{Written};
-ghost use Rattle.answertext.specs.Text.{answerText, madeText, partsText, rowLine, rowText, shownText, termLine, termsIn, typesIn, valueText, verdictLine};
-ghost use Rattle.answertext.specs.Arity.{AritiesFit, arityIn};
-
-// ---- rows
-
-// How many parts a message of this type and variant has.
-fn arity(types: TypeTable, t: u32, v: u32) -> usize
-    requires { ⌜ AritiesFit types ⌝ }
-    ensures { λ r. ⌜ r ≡ arityIn types t v ⌝ }
-{
-    if 6 <= t {
-        return 0;
-    }
-    let variants = types.variants;
-    if variants[t as usize] as u32 <= v {
-        return 0;
-    }
-    let first = types.first;
-    let arities = types.arities;
-    arities[first[t as usize] as usize + v as usize] as usize
-}
-
-// So many parts of a row, if it has any, from number `j` on.
-fn put_parts(out: &mut [u8], at: usize, rows: &[i32], j: usize, many: usize) -> usize
-    requires { ⌜ (many ≤ 3) × (j < 18446744073709551612) ⌝ }
-    requires { ⌜ at + 42 ≤ length (now out) ⌝ }
-    ensures { λ r. ⌜ Written 42 (now (out .entry)) at (partsText (now (rows .entry)) j many) (now (out .exit)) r ⌝ }
-{
-    if many == 0 {
-        return at;
-    }
-    let mut next = writing::put_bytes(out, at, b" parts");
-    let mut p: usize = 0;
-    while p < many {
-        next = writing::put_number_at(out, next, rows, j + p);
-        p += 1;
-    }
-    next
-}
-
-// A message with this tag: "A message of type t and variant v has 16 × t + v, then the rows of its parts", here from number
-// `j` on.
-fn put_message(
-    out: &mut [u8],
-    at: usize,
-    types: TypeTable,
-    rows: &[i32],
-    j: usize,
-    tag: u32,
-) -> usize
-    requires { ⌜ AritiesFit types ⌝ }
-    requires { ⌜ j < 18446744073709551612 ⌝ }
-    requires { ⌜ at + 77 ≤ length (now out) ⌝ }
-    ensures { λ r. ⌜ Written 77 (now (out .entry)) at (madeText (arityIn types) (now (rows .entry)) j tag) (now (out .exit)) r ⌝ }
-{
-    let t = tag / 16;
-    let v = tag % 16;
-    let typed = writing::put_named(out, at, b" type ", t);
-    let next = writing::put_named(out, typed, b" variant ", v);
-    put_parts(out, next, rows, j, arity(types, t, v))
-}
-
-// A number of this type: "A number of type t has −1 − t, then its value", here at `j`.
-fn put_valued(out: &mut [u8], at: usize, rows: &[i32], j: usize, t: u32) -> usize
-    requires { ⌜ at + 77 ≤ length (now out) ⌝ }
-    ensures { λ r. ⌜ Written 77 (now (out .entry)) at (valueText (now (rows .entry)) j t) (now (out .exit)) r ⌝ }
-{
-    let typed = writing::put_named(out, at, b" type ", t);
-    let next = writing::put_bytes(out, typed, b" number");
-    writing::put_number_at(out, next, rows, j)
-}
-
-// What row i says, which lies from number `j` on.
-fn put_row_text(out: &mut [u8], at: usize, types: TypeTable, rows: &[i32], j: usize) -> usize
-    requires { ⌜ AritiesFit types ⌝ }
-    requires { ⌜ j < 18446744073709551611 ⌝ }
-    requires { ⌜ at + 77 ≤ length (now out) ⌝ }
-    ensures { λ r. ⌜ Written 77 (now (out .entry)) at (rowText (arityIn types) (now (rows .entry)) j) (now (out .exit)) r ⌝ }
-{
-    let folded = numbers::fold_signed(writing::number_at(rows, j));
-    if folded % 2 == 0 {
-        return put_message(out, at, types, rows, j + 1, folded / 2);
-    }
-    put_valued(out, at, rows, j + 1, folded / 2)
-}
-
-fn put_row(out: &mut [u8], at: usize, types: TypeTable, rows: &[i32], i: u32) -> usize
-    requires { ⌜ AritiesFit types ⌝ }
-    requires { ⌜ at + 96 ≤ length (now out) ⌝ }
-    ensures { λ r. ⌜ Written 96 (now (out .entry)) at (rowLine (arityIn types) (now (rows .entry)) i) (now (out .exit)) r ⌝ }
-{
-    let named = writing::put_named(out, at, b"row ", i);
-    let next = put_row_text(out, named, types, rows, 4 * (i as usize));
-    writing::put_bytes(out, next, b"\n")
-}
-
-fn put_rows(out: &mut [u8], at: usize, types: TypeTable, rows: &[i32], many: u32) -> usize
-    requires { ⌜ AritiesFit types ⌝ }
-    requires { ⌜ at + 96 * many ≤ length (now out) ⌝ }
-    ensures { λ r. ⌜ Written (96 * many) (now (out .entry)) at (concatMap (rowLine (arityIn types) (now (rows .entry))) (from many 0)) (now (out .exit)) r ⌝ }
-{
-    let mut next = at;
-    let mut i: u32 = 0;
-    while i < many {
-        next = put_row(out, next, types, rows, i);
-        i += 1;
-    }
-    next
-}
+ghost use Rattle.answertext.specs.Text.{answerText, shownText, termLine, termsIn, typesIn, verdictLine};
 
 // ---- terms
 
@@ -168,7 +59,7 @@ fn put_shown(
     ensures { λ r. ⌜ Written (96 * many + 2304) (now (out .entry)) at (shownText (typesIn (file base (now (bytes .entry)))) (termsIn (file base (now (bytes .entry)))) many (now (rows .entry)) (now (places .entry))) (now (out .exit)) r ⌝ }
 {
     let t = reader::read(bytes, 6, 24, 32);
-    let next = put_rows(out, at, t.types, rows, many);
+    let next = rowtext::put_rows(out, at, t.types, rows, many);
     let table = t.rows;
     put_terms(out, next, places, table.many as u32)
 }

@@ -1,10 +1,10 @@
 -- `put_row`: a word and the number of the row, what it says, the end of the line. Assumes nothing.
 use native.Mathlib.Omega.{arith}
 use borrow.Author.Needs.{needs}
-use Rattle.answertext.specs.Text.{rowLine}
+use Rattle.rowtext.specs.Rows.{rowLine}
 use Rattle.writing.proofs.Writing.{and-then, more-room}
-use Rattle.answertext.proofs.put_row.Statement.{statement}
-use Rattle.answertext.proofs.put_row.Tie as tie
+use Rattle.rowtext.proofs.put_row.Statement.{statement}
+use Rattle.rowtext.proofs.put_row.Tie as tie
 
 slice-aggregate-put-named : tie.Need-slice-aggregate-put-named
 slice-aggregate-put-named c = search needs

@@ -6,10 +6,10 @@ use native.Mathlib.Omega.{arith}
 use borrow.Author.Needs.{needs}
 use Rattle.guard.specs.Shown.{tagType, tagVariant}
 use Rattle.writing.specs.Words.{named}
-use Rattle.answertext.specs.Text.{madeText, partsText}
+use Rattle.rowtext.specs.Rows.{madeText, partsText}
 use Rattle.writing.proofs.Writing.{and-then, more-room, same-text}
-use Rattle.answertext.proofs.put_message.Statement.{statement}
-use Rattle.answertext.proofs.put_message.Tie as tie
+use Rattle.rowtext.proofs.put_message.Statement.{statement}
+use Rattle.rowtext.proofs.put_message.Tie as tie
 
 slice-aggregate-put-named : tie.Need-slice-aggregate-put-named
 slice-aggregate-put-named c = search needs

@@ -13,8 +13,8 @@ use Rattle.guard.specs.Types.{Types, fieldsOf, variantsOf}
 use Rattle.tables.specs.Layout.{flat, typeTable}
 use Rattle.tables.specs.declared.TypeTable.{TypeTable}
 use Rattle.tables.proofs.Lookups.{arity-at, first-at, offset-inside, variants-at}
-use Rattle.answertext.specs.Text.{fieldCount}
-use Rattle.answertext.specs.Arity.{AritiesFit, arityBy, arityIn}
+use Rattle.rowtext.specs.Arity.{fieldCount}
+use Rattle.rowtext.specs.Arity.{AritiesFit, arityBy, arityIn}
 
 module _ (types : TypeTable) (t v : ℕ) where
   by-answer : (b : Bool) → ltb v (getD (types .variants) t 0) ≡ b → arityBy b types t v ≡ arityIn types t v

@@ -7,9 +7,9 @@ use Rattle.laws.specs.Lists.{concatMap, from}
 use Rattle.writing.specs.Written.{Written}
 use Rattle.writing.specs.Words.{numberText}
 use Rattle.writing.proofs.Writing.{and-then, more-room, next-turn, nothing, same-text}
-use Rattle.answertext.proofs.RowTexts.{no-parts, some-parts}
-use Rattle.answertext.proofs.put_parts.Statement.{statement}
-use Rattle.answertext.proofs.put_parts.Tie as tie
+use Rattle.rowtext.proofs.RowTexts.{no-parts, some-parts}
+use Rattle.rowtext.proofs.put_parts.Statement.{statement}
+use Rattle.rowtext.proofs.put_parts.Tie as tie
 
 abbrev Inv-loop : tie.InvT-loop
 Inv-loop out₀ at rows j many next₀ p₀ out next p = (p ≤ many) × Written (12 * p) out₀ next₀ (concatMap (numberText rows) (from p j)) out next

@@ -4,12 +4,12 @@ use native.Mathlib.Omega.{arith}
 use borrow.Author.Needs.{needs}
 use mir.Facts.{toZ-ofZ}
 use Rattle.guard.specs.Number.{foldSigned}
-use Rattle.answertext.specs.Text.{rowText}
+use Rattle.rowtext.specs.Rows.{rowText}
 use Rattle.writing.proofs.Writing.{same-text}
-use Rattle.answertext.specs.Arity.{arityIn}
-use Rattle.answertext.proofs.RowTexts.{row-even, row-odd}
-use Rattle.answertext.proofs.put_row_text.Statement.{statement}
-use Rattle.answertext.proofs.put_row_text.Tie as tie
+use Rattle.rowtext.specs.Arity.{arityIn}
+use Rattle.rowtext.proofs.RowTexts.{row-even, row-odd}
+use Rattle.rowtext.proofs.put_row_text.Statement.{statement}
+use Rattle.rowtext.proofs.put_row_text.Tie as tie
 
 number-at-requires : tie.Need-number-at-requires
 number-at-requires c κs = search needs

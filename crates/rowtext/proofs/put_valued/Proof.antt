@@ -1,10 +1,10 @@
 -- `put_valued`: the type, and the value after a word. Assumes nothing.
 use native.Mathlib.Omega.{arith}
 use borrow.Author.Needs.{needs}
-use Rattle.answertext.specs.Text.{valueText}
+use Rattle.rowtext.specs.Rows.{valueText}
 use Rattle.writing.proofs.Writing.{and-then, more-room}
-use Rattle.answertext.proofs.put_valued.Statement.{statement}
-use Rattle.answertext.proofs.put_valued.Tie as tie
+use Rattle.rowtext.proofs.put_valued.Statement.{statement}
+use Rattle.rowtext.proofs.put_valued.Tie as tie
 
 slice-aggregate-put-named : tie.Need-slice-aggregate-put-named
 slice-aggregate-put-named c = search needs

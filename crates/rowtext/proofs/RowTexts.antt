@@ -9,7 +9,7 @@ use Rattle.laws.specs.Lists.{concatMap, from}
 use Rattle.guard.specs.Number.{foldSigned}
 use Rattle.writing.specs.Words.{ascii, numberText}
 use Rattle.writing.proofs.Signs.{half-even, half-odd}
-use Rattle.answertext.specs.Text.{madeText, partsText, rowBy, valueText}
+use Rattle.rowtext.specs.Rows.{madeText, partsText, rowBy, valueText}
 
 module _ (rows : List ℤ) (j : ℕ) where
   pub no-parts : (many : ℕ) → many ≡ 0 → partsText rows j many ≡ []

@@ -5,11 +5,11 @@ use native.Mathlib.Omega.{arith}
 use borrow.Author.Needs.{needs}
 use Rattle.laws.specs.Lists.{concatMap, from}
 use Rattle.writing.specs.Written.{Written}
-use Rattle.answertext.specs.Arity.{arityIn}
-use Rattle.answertext.specs.Text.{rowLine}
+use Rattle.rowtext.specs.Arity.{arityIn}
+use Rattle.rowtext.specs.Rows.{rowLine}
 use Rattle.writing.proofs.Writing.{all-turns, from-zero, next-turn, nothing, same-text}
-use Rattle.answertext.proofs.put_rows.Statement.{statement}
-use Rattle.answertext.proofs.put_rows.Tie as tie
+use Rattle.rowtext.proofs.put_rows.Statement.{statement}
+use Rattle.rowtext.proofs.put_rows.Tie as tie
 
 abbrev Inv-loop : tie.InvT-loop
 Inv-loop out₀ at types rows many next₀ i₀ out next i = (i ≤ many) × Written (96 * i) out₀ next₀ (concatMap (rowLine (arityIn types) rows) (from i 0)) out next

@@ -1,9 +1,9 @@
 -- `arity`: no type, no variant, or the entry of the table. Assumes nothing.
 use native.Mathlib.Omega.{arith}
-use Rattle.answertext.proofs.Arities.{a-variant, no-variant}
+use Rattle.rowtext.proofs.Arities.{a-variant, no-variant}
 use borrow.Author.Needs.{needs}
-use Rattle.answertext.proofs.arity.Statement.{statement}
-use Rattle.answertext.proofs.arity.Tie as tie
+use Rattle.rowtext.proofs.arity.Statement.{statement}
+use Rattle.rowtext.proofs.arity.Tie as tie
 
 returns : tie.Need-returns
 returns c = no-variant (c .before .args .types) (c .before .args .t) (c .before .args .v) (omega (arith, c .before .pre .six (c .before .args .t) (omega arith)))

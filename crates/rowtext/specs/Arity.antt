@@ -1,10 +1,15 @@
--- How many parts a message has, from the table of types. Assumes nothing: definitions.
+-- How many parts a message has: by its type, and from the table of types. Assumes nothing: definitions.
 use mathlib.Core.Path.{_≡_}
 use mathlib.Core.Bool.{Bool, true, false}
 use Prim.Native.Nat.{ℕ, _+_, _<_, _≤_}
 use lib.Dec.{ltb}
-use lib.ListN.{getD}
+use lib.ListN.{length, getD}
+use Rattle.guard.specs.Types.{Types, fieldsOf}
 use Rattle.tables.specs.declared.TypeTable.{TypeTable}
+
+-- how many fields a variant has
+abbrev pub fieldCount : Types → ℕ → ℕ → ℕ
+fieldCount ts t v = length (fieldsOf ts t v)
 
 -- none where there is no such type or variant
 abbrev pub arityBy : Bool → TypeTable → ℕ → ℕ → ℕ

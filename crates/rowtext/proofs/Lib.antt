@@ -1,0 +1,2 @@
+pub mod Arities
+mod RowTexts
