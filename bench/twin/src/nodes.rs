@@ -13,7 +13,7 @@ pub fn is_closed(problem: &Problem, state: &State) -> bool {
         || has_cycle(problem, state)
 }
 
-pub fn has_empty_label(problem: &Problem, state: &State) -> bool {
+fn has_empty_label(problem: &Problem, state: &State) -> bool {
     let mut labelled = problem.labelled().iter();
     labelled.any(|&term| state.label(term) == 0)
 }

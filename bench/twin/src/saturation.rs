@@ -1,18 +1,32 @@
 //! The closure of a node: the passes of the crates `reads`, `singles` and `keys`, in the order of `saturation`.
 
 use crate::guard::Term;
-use crate::nodes::has_empty_label;
 use crate::problem::{Problem, Read, Shape, SLOTS};
 use crate::state::State;
 
-/// Adds what the rules give until nothing is new, or a label is empty.
+/// How a pass ends that stops at an empty label.
+enum Passed {
+    Quiet,
+    Changed,
+    Stopped,
+}
+
+/// Adds what the rules give until nothing is new, or an empty label is met.
 pub fn saturate(problem: &Problem, state: &mut State) {
-    while !has_empty_label(problem, state)
-        && (pass_defaults(problem, state)
-            || pass_singles(problem, state)
-            || pass_shapes(problem, state)
-            || pass_reads(problem, state))
-    {}
+    while matches!(advance(problem, state), Passed::Changed) {}
+}
+
+/// The passes in turn, until one changes something or stops.
+fn advance(problem: &Problem, state: &mut State) -> Passed {
+    if pass_defaults(problem, state) {
+        return Passed::Changed;
+    }
+    match pass_singles(problem, state) {
+        Passed::Quiet if pass_shapes(problem, state) || pass_reads(problem, state) => {
+            Passed::Changed
+        }
+        passed => passed,
+    }
 }
 
 /// A read of a variant that the label lacks is the default.
@@ -32,7 +46,7 @@ const NONE: Term = Term::MAX;
 type Seen = [Term; 112];
 
 /// Terms of one fieldless variant alone are equal.
-fn pass_singles(problem: &Problem, state: &mut State) -> bool {
+fn pass_singles(problem: &Problem, state: &mut State) -> Passed {
     let mut seen: Seen = [NONE; 112];
     let mut changed = false;
     for &term in problem.labelled() {
@@ -43,16 +57,16 @@ fn pass_singles(problem: &Problem, state: &mut State) -> bool {
         if label.count_ones() > 1 {
             continue;
         }
-        // An empty label counts as each one variant alone.
-        let variants = match label.trailing_zeros() {
-            16 => 0..16,
-            variant => variant..variant + 1,
-        };
-        for variant in variants {
-            changed |= enter(problem, state, &mut seen, term, variant as usize);
+        if label == 0 {
+            return Passed::Stopped;
         }
+        let variant = label.trailing_zeros() as usize;
+        changed |= enter(problem, state, &mut seen, term, variant);
     }
-    changed
+    match changed {
+        true => Passed::Changed,
+        false => Passed::Quiet,
+    }
 }
 
 fn enter(

@@ -1,2 +1,3 @@
 pub mod Singles
 pub mod SinglesFollow
+pub mod StopLaws

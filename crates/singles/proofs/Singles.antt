@@ -24,8 +24,9 @@ use Rattle.passes.proofs.PassLaws.{steps-le}
 use Rattle.slots.specs.Slots.{fieldlessAt, onlyIs, sortAt}
 use Rattle.slots.proofs.DueLaws.{mem-when}
 use Rattle.labelled.specs.Covers.{hasMask}
+use Rattle.reasons.specs.Reasons.{emptyAt}
 use Rattle.singles.specs.Due.{singleDue, singlesDue, singlesFor, singlesOf}
-use Rattle.singles.specs.Entered.{Advance, AllSeen, Before, Entered, SeenFit, placeOf, seenAt, unseen}
+use Rattle.singles.specs.Entered.{Advance, AllSeen, Before, Entered, NeverAlone, SeenFit, TermOrStop, placeOf, seenAt, unseen}
 
 -- ---- places
 
@@ -330,6 +331,24 @@ module _ (sorts fieldless : List ℕ) (s : State) (seen : List ℕ) (x : ℕ) wh
 
   pub fit-end : (v : ℕ) → SeenFit sorts seen x v → SeenFit sorts seen (x + 1) 0
   fit-end v f = record { long = f .long; at = λ w n. (⊎-elim (λ h. inl (omega arith)) (λ p. inl (omega (arith, p .0))) (f .at w n .0), f .at w n .1) }
+
+-- a term that is never of a variant alone has nothing to do
+module _ (sorts fieldless : List ℕ) (s : State) (seen : List ℕ) (x : ℕ) where
+  pub passed-over : NeverAlone sorts fieldless s x → Advance sorts fieldless s seen x 0 s seen (x + 1) 0 false
+  passed-over n = end-term sorts fieldless s seen x 0 s seen false (λ u l h. n u h) (begin-term sorts fieldless s seen x 0 (λ u h. absurd (omega arith)))
+
+  module _ (full : List ℕ) (stop : Bool) where
+    pub term-over : NeverAlone sorts fieldless s x → TermOrStop sorts full fieldless stop s seen x s seen 0
+    term-over n = record { code = omega arith; passed = λ _. passed-over n; stopped = λ e. absurd (omega (arith, e)) }
+
+    pub term-stops : (b : Bool) → b ≡ (stop && emptyAt sorts full s x) → b ≡ true → TermOrStop sorts full fieldless stop s seen x s seen 2
+    term-stops b e t = record { code = omega arith; passed = λ n. absurd (n refl); stopped = λ _. (refl, sym e ∙ t) }
+
+    pub term-changed : (s′ : State) (seen′ : List ℕ) (b : Bool) → Advance sorts fieldless s seen x 0 s′ seen′ (x + 1) 0 b → b ≡ true → TermOrStop sorts full fieldless stop s seen x s′ seen′ 1
+    term-changed s′ seen′ b p e = record { code = omega arith; passed = λ _. subst (Advance sorts fieldless s seen x 0 s′ seen′ (x + 1) 0) e p; stopped = λ q. absurd (omega (arith, q)) }
+
+    pub term-same : (s′ : State) (seen′ : List ℕ) (b : Bool) → Advance sorts fieldless s seen x 0 s′ seen′ (x + 1) 0 b → b ≡ false → TermOrStop sorts full fieldless stop s seen x s′ seen′ 0
+    term-same s′ seen′ b p e = record { code = omega arith; passed = λ _. subst (Advance sorts fieldless s seen x 0 s′ seen′ (x + 1) 0) e p; stopped = λ q. absurd (omega (arith, q)) }
 
 -- ---- the whole pass
 

@@ -1,10 +1,11 @@
 -- `saturate_fully` meets its contract. Invariant: what is due was added; the state falls with each round. Assumes nothing.
+use mathlib.Core.Path.{refl}
+use mathlib.Core.Bool.{false}
 use Rattle.guard.specs.Closure.{size}
 use Rattle.classes.specs.Held.{Held, state}
 use Rattle.passes.specs.Pass.{Steps, Steps.done}
-use Rattle.passes.proofs.PassLaws.{steps-on}
 use Rattle.saturation.specs.Due.{allDue}
-use Rattle.saturation.proofs.Rounds.{last-round}
+use Rattle.saturation.proofs.Rounds.{ended, steps-then}
 use Rattle.saturation.proofs.saturate_fully.Statement.{statement}
 use Rattle.saturation.proofs.saturate_fully.Tie as tie
 
@@ -24,11 +25,16 @@ loop-less : tie.Need-loop-less Inv-loop μ-loop
 loop-less c = c .before .advance .ensures .0 .falls (c .if1 .taken)
 
 loop-again : tie.Need-loop-again Inv-loop μ-loop
-loop-again c = (steps-on (c .before .before .before .before .loop .inv .0) (c .before .advance .ensures .0 .steps), c .before .advance .ensures .1)
+loop-again c =
+    let a = c .before .before .before .before .before .args in
+    let v = c .before .advance in
+    (steps-then (a .sorts .now) (a .fieldless .now) false (v .result) (c .before .before .before .before .loop .inv .0) (v .ensures .0), v .ensures .1)
 
 returns : tie.Need-returns Inv-loop μ-loop
-returns c = (last-round (c .before .advance .result) (c .if1 .left) (c .before .before .before .before .loop .inv .0) (c .before .advance .ensures .0), c .before .advance .ensures .1)
+returns c =
+    let a = c .before .before .before .before .before .args in
+    let v = c .before .advance in
+    (ended (a .sorts .now) (a .fieldless .now) false (v .result) (c .before .before .before .before .loop .inv .0) (v .ensures .0) refl (c .if1 .left), v .ensures .1)
 
 pub saturate-fully-spec : {M : Type 1} → statement M
-saturate-fully-spec =
-    tie.close (tie.spec Inv-loop μ-loop loop-holds advance-requires loop-less loop-again returns)
+saturate-fully-spec = tie.close (tie.spec Inv-loop μ-loop loop-holds advance-requires loop-less loop-again returns)

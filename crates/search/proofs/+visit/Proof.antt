@@ -65,7 +65,7 @@ visit-returns t c =
 visit-saturate-requires : (t : ℕ) → visit-lts.Need-saturate-requires (calls t) (visit-at t) visit.Post
 visit-saturate-requires t c κs =
     let p = c .before .before .before .pre .1 in
-    (p .0 .held, ((p .1 .shapesFit, p .1 .readsFit, p .1 .sortsFit), (p .1 .coversFull, p .1 .coversFieldless)))
+    (p .0 .held, ((p .1 .shapesFit, p .1 .readsFit, p .1 .sortsFit), p .1 .coversFieldless))
 
 visit-is-closed-requires : (t : ℕ) → visit-lts.Need-is-closed-requires (calls t) (visit-at t) visit.Post
 visit-is-closed-requires t c κs =
