@@ -11,12 +11,11 @@ use borrow.Author.Tests.{eq-eqb, le-ltb, lt-ltb, ltb-true, ne-eqb}
 use Rattle.laws.specs.Bits.{bit}
 use Rattle.laws.specs.Lists.{any, from}
 use Rattle.laws.proofs.Bools.{and-left}
-use Rattle.guard.specs.Closure.{State, eqZ, labelOf, lacks}
+use Rattle.guard.specs.Closure.{State, eqZ, labelOf}
 use Rattle.guard.specs.Limits.{variantLimit}
 use Rattle.guard.specs.Node.{holdsAnother}
 use Rattle.loops.specs.Lowest.{lowest}
-use Rattle.loops.proofs.Tests.{and-no, and-yes, no-and, yes-and}
-use Rattle.slots.specs.Slots.{sortAt}
+use Rattle.loops.proofs.Tests.{and-no, no-and, yes-and}
 use Rattle.given.specs.Facts.{constantValue}
 use Rattle.reasons.specs.Reasons.{constantClass}
 use Rattle.cycles.specs.Cycles.{Inside, Tells}

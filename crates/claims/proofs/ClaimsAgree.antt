@@ -15,7 +15,7 @@ use Rattle.laws.proofs.Lists.{all-getD, all-mem, all-of, any-cong, concatMap-co
 use Rattle.guard.specs.Closure.{State, buildsAt, classOf, eqZ, sameClass}
 use Rattle.guard.specs.Guard.{Literal, Literal.equal, Literal.is, Literal.isnt, Literal.unequal}
 use Rattle.guard.specs.Node.{broken, emptyLabel, holdsAnother, insideItself, partsOf, reached, unlikeConstants}
-use Rattle.guard.specs.Terms.{Build, Table, Term, termCount}
+use Rattle.guard.specs.Terms.{Build, Const, Table, Term, termCount}
 use Rattle.guard.specs.Types.{isNumber}
 use Rattle.guard.proofs.Agreement.{Agrees, builds-agree}
 use Rattle.guard.proofs.ClosureBelow.{InRange, LiteralInRange, LiteralsInRange, all-builds}
@@ -35,20 +35,19 @@ module _ (t : Table) (ranged : InRange t) (s s′ : State) (agree : Agrees s s�
   class : (x : Term) → List·Memᴰ x (t .terms) → classOf s (x .term) ≡ classOf s′ (x .term)
   class x m = agree .class (x .term) (ranged .terms x m .0)
 
-  same-agrees : (i j : ℕ) → i < termCount → j < termCount → sameClass s i j ≡ sameClass s′ i j
-  same-agrees i j hi hj = ap₂ eqb (agree .class i hi) (agree .class j hj)
-
   broken-agrees : (l : Literal) → LiteralInRange l → broken s l ≡ broken s′ l
+  broken-agrees (unequal i j) h = ap₂ eqb (agree .class i (h .0)) (agree .class j (h .1))
   broken-agrees (equal i j) h = refl
-  broken-agrees (unequal i j) h = same-agrees i j (h .0) (h .1)
   broken-agrees (is i v) h = refl
   broken-agrees (isnt i v) h = refl
 
+  -- a term and a constant
+  with-constant : (x : Term) → List·Memᴰ x (t .terms) → (a : Const) → List·Memᴰ a (t .consts) → sameClass s (x .term) (a .term) ≡ sameClass s′ (x .term) (a .term)
+  with-constant x m a n = ap₂ eqb (class x m) (agree .class (a .term) (ranged .consts a n))
+
   unlike-agrees : (x : Term) → List·Memᴰ x (t .terms) → unlikeConstants t s x ≡ unlikeConstants t s′ x
   unlike-agrees x m =
-      let at : x .term < termCount = ranged .terms x m .0 in
-      any-cong _ _ (t .consts) (λ a p. any-cong _ _ (t .consts) (λ b q.
-      ap₂ (λ (c d : Bool). c && (d && not (eqZ (a .value) (b .value)))) (same-agrees (x .term) (a .term) at (ranged .consts a p)) (same-agrees (x .term) (b .term) at (ranged .consts b q))))
+      any-cong _ _ (t .consts) (λ a p. any-cong _ _ (t .consts) (λ b q. ap₂ (λ (c d : Bool). c && (d && not (eqZ (a .value) (b .value)))) (with-constant x m a p) (with-constant x m b q)))
 
   -- ---- parts
 

@@ -1,6 +1,6 @@
 -- The tests by a guard's arrays are the claims of request #101. Assumes nothing.
-use mathlib.Core.Path.{_≡_, refl, ap, ap₂, subst, sym, _∙_}
-use mathlib.Core.Bool.{Bool, true, false, not, false≢true, _&&_}
+use mathlib.Core.Path.{_≡_, refl, ap, subst, sym, _∙_}
+use mathlib.Core.Bool.{Bool, true, not, _&&_}
 use mathlib.Core.List.{List, map, List·Memᴰ}
 use Prim.Native.Nat.{ℕ, zero, suc, _-_, _^_, _≤_, _<_}
 use native.Mathlib.Nat.{pow-suc}
@@ -8,14 +8,14 @@ use native.Mathlib.Omega.{arith}
 use lib.Dec.{eqb, ltb}
 use lib.ListN.{length, getD, List·getD-eq-default}
 use lib.Pow.{pow-mono, pow-pos}
-use borrow.Author.Tests.{eqb-false, le-ltb, lt-ltb, ltb-false, ltb-true, ne-eqb, not-true}
+use borrow.Author.Tests.{lt-ltb, ltb-false, ltb-true, ne-eqb}
 use Rattle.laws.specs.Lists.{any}
 use Rattle.laws.proofs.Bits.{bit-le}
 use Rattle.laws.proofs.Bools.{and-both, and-left, and-right, by-test}
 use Rattle.guard.specs.Closure.{State, buildsAt, classOf, labelOf}
 use Rattle.guard.specs.Guard.{Guard, Literal, Literal.equal, Literal.is, Literal.isnt, Literal.unequal}
 use Rattle.guard.specs.Limits.{Limits, Supported, totalVariantLimit, variantLimit}
-use Rattle.guard.specs.Node.{Split, broken, emptyLabel, holdsAnother, insideItself, unlikeConstants}
+use Rattle.guard.specs.Node.{broken, emptyLabel, holdsAnother, insideItself, unlikeConstants}
 use Rattle.guard.specs.Terms.{Table, Term, tableOf, termCount}
 use Rattle.guard.specs.Types.{variantsOf}
 use Rattle.guard.specs.WellFormed.{WellFormed}
@@ -34,7 +34,7 @@ use Rattle.slots.proofs.DueLaws.{is-nonzero, nonzero-is}
 use Rattle.slots.proofs.GuardSlots.{sort-slots}
 use Rattle.slots.proofs.TableSlots.{SortSlots}
 use Rattle.reasons.specs.Reasons.{brokenAt, emptyAt}
-use Rattle.cycles.specs.Cycles.{Inside, Tells}
+use Rattle.cycles.specs.Cycles.{Tells}
 use Rattle.cycles.proofs.CycleLaws.{inside-is, is-inside}
 use Rattle.refutations.specs.Record.{Entry.splitOn, claim, lineAt, named}
 use Rattle.refutations.proofs.ClaimLaws.{of-term, term-of}

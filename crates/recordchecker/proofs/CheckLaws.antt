@@ -8,13 +8,13 @@ use native.Mathlib.Omega.{arith}
 use lib.IntN.{ℤ}
 use lib.ListN.{length, drop, length-drop}
 use Rattle.laws.proofs.Lists.{length-nil}
-use Rattle.guard.specs.Closure.{Fact.within, State, add, classOf, closureOf, everyVariant}
+use Rattle.guard.specs.Closure.{Fact.within, State, add, closureOf}
 use Rattle.guard.specs.Guard.{Guard, Literal, Literal.is, Literal.isnt}
 use Rattle.guard.specs.Number.{Parsed, Parsed.accepted, Parsed.refused, Parser, _>>_, andThen, ask}
 use Rattle.guard.specs.Terms.{Table, tableOf, termCount}
 use Rattle.guard.proofs.Agreement.{named-reached}
 use Rattle.guard.proofs.AnyOrder.{Reached, reached-small}
-use Rattle.guard.proofs.ClosureBelow.{InRange, LiteralsInRange}
+use Rattle.guard.proofs.ClosureBelow.{InRange}
 use Rattle.guard.proofs.TableLaws.{literals-in-range, table-in-range}
 use Rattle.tables.specs.Layout.{literalTable}
 use Rattle.numbers.specs.Reader.{Says}

@@ -2,7 +2,7 @@
 -- Assumes nothing.
 use mathlib.Core.Path.{_≡_, refl, ap, sym, subst}
 use mathlib.Core.Bool.{true}
-use mathlib.Core.List.{List, [], _∷_, _++_, map, List·Memᴰ, List·Memᴰ·head, List·Memᴰ·tail, Memᴰ·append-left, Memᴰ·append-right, List·Memᴰ·append-cases}
+use mathlib.Core.List.{List, _∷_, _++_, map, List·Memᴰ, List·Memᴰ·head, List·Memᴰ·tail, Memᴰ·append-left, Memᴰ·append-right, List·Memᴰ·append-cases}
 use mathlib.Core.Logic.{_⊎_, inl, inr, ⊎-elim}
 use Prim.Native.Nat.{ℕ, _-_, _^_, _<_}
 use native.Mathlib.Omega.{arith}
@@ -13,10 +13,10 @@ use Rattle.laws.specs.All.{All}
 use Rattle.laws.specs.Lists.{concatMap}
 use Rattle.laws.proofs.Bools.{and-left, and-right}
 use Rattle.laws.proofs.Lists.{all-mem, all-of}
-use Rattle.guard.specs.Closure.{Fact, Fact.within, State, add, allVariants, classOf, closureOf, constants, everyVariant, given, ofLiteral, oneVariant, pairwise}
+use Rattle.guard.specs.Closure.{Fact, Fact.within, State, add, allVariants, classOf, constants, everyVariant, given, ofLiteral, oneVariant, pairwise}
 use Rattle.guard.specs.Guard.{Guard, Literal, Literal.is, Literal.isnt}
 use Rattle.guard.specs.Limits.{variantLimit}
-use Rattle.guard.specs.Node.{Split, holdsAnother}
+use Rattle.guard.specs.Node.{holdsAnother}
 use Rattle.guard.specs.Terms.{Table, tableOf, termCount}
 use Rattle.guard.proofs.AnyOrder.{Reached, Reached.by-given, Reached.by-rules, Reached.start, reached-small}
 use Rattle.guard.proofs.ClosureState.{Says, add-keeps, add-says, says-kept}

@@ -9,7 +9,7 @@ use Rattle.laws.proofs.Lists.{length-nil}
 use Rattle.guard.specs.Closure.{State, add}
 use Rattle.guard.specs.Guard.{Guard}
 use Rattle.guard.specs.Limits.{base}
-use Rattle.guard.specs.Number.{Parsed.refused, andThen}
+use Rattle.guard.specs.Number.{Parsed.refused}
 use Rattle.guard.specs.Terms.{tableOf}
 use Rattle.guard.proofs.Claims.{accepts-all, base-supported}
 use Rattle.guard.proofs.ClosureEnds.{first}

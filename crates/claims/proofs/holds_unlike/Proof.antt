@@ -1,7 +1,7 @@
 -- `holds_unlike` meets its contract. Invariant: no constant before differs from the first. Assumes nothing.
-use mathlib.Core.Path.{ap, sym, _∙_}
-use mathlib.Core.Bool.{Bool, true, false}
-use Prim.Native.Nat.{ℕ, _-_, _≤_}
+use mathlib.Core.Path.{sym, _∙_}
+use mathlib.Core.Bool.{true, false}
+use Prim.Native.Nat.{_-_, _≤_}
 use native.Mathlib.Omega.{arith}
 use borrow.Author.Needs.{needs}
 use Rattle.loops.proofs.Loops.{NoneBelow, any-here, any-nowhere, none-next, none-yet}
