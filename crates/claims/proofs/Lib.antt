@@ -1,0 +1,4 @@
+pub mod ClaimTests
+pub mod ClaimsAgree
+pub mod UnlikeLaws
+pub mod ClaimsSame
