@@ -1,8 +1,9 @@
 //! A second, separately written solver for guard files.
 //!
-//! It is written from document 01 alone and favours plain code over speed:
-//! the closure is saturated from scratch at every node of the search. It gives
-//! the expected answers of the test vectors and checks printed answers.
+//! It is written from document 01 and request #101 of document 02 alone, and
+//! favours plain code over speed: the closure is saturated from scratch at
+//! every node of the search. It gives the expected answers of the test vectors
+//! and checks printed answers.
 //!
 //! Words: document 01's sister field is a sibling field here, a class that is
 //! a part of itself is a cycle, and "the walk" is the search.
@@ -15,6 +16,7 @@ pub mod number;
 pub mod problem;
 pub mod random;
 pub mod read;
+pub mod record;
 pub mod search;
 pub mod shown;
 pub mod smt;

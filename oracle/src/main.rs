@@ -6,16 +6,21 @@ use std::io::{self, Read, Write};
 use std::path::Path;
 use std::process::ExitCode;
 
-use oracle::answer::answer;
-use oracle::guard::Limits;
+use oracle::answer::{answer, answer_to};
+use oracle::guard::{Guard, Limits};
+use oracle::vectors::records::{self, Checked};
 use oracle::vectors::{self, Vector, USUAL_BUDGET};
-use oracle::{read, smt, tables, text};
+use oracle::{read, record, smt, tables, text};
 
 const USAGE: &str = "\
 usage: oracle answer FILE [--budget N]        the answer to a guard file
        oracle check FILE OUTPUT [--budget N]  checks what guarddesk printed
        oracle smt FILE                        the guard in SMT-LIB 2
+       oracle record FILE [--budget N]        the record of an UNSAT guard, in hexadecimal
+       oracle check-record FILE RECORD        checks such a record against the guard
        oracle vectors [--check] DIR           writes or checks DIR/vectors.txt
+       oracle records [--check] DIR           writes or checks DIR/records.txt, with
+                                              guards of DIR/vectors.txt
        oracle pack VECTORS OUT                packs vectors into one binary file
        oracle tables [--check] VECTORS DIR    writes or checks DIR/stdin, the packed
                                               vectors, and DIR/stdout, the desk's tables
@@ -23,7 +28,7 @@ usage: oracle answer FILE [--budget N]        the answer to a guard file
        oracle walks [--check] VECTORS DIR     the same, with the answer to each in a line
        oracle answers [--check] VECTORS DIR   writes or checks DIR/stdin, and checks
                                               DIR/stdout, the whole answers of the desk
-FILE and OUTPUT may be - for standard input. N is 1000000 if not given.";
+FILE, OUTPUT and RECORD may be - for standard input. N is 1000000 if not given.";
 
 /// Why the program fails.
 enum Failure {
@@ -61,8 +66,13 @@ fn run(words: &[&str]) -> Result<(), Failure> {
         ["check", file, output] => check_command(file, output, USUAL_BUDGET),
         ["check", file, output, "--budget", n] => check_command(file, output, budget(n)?),
         ["smt", file] => smt_command(file),
+        ["record", file] => record_command(file, USUAL_BUDGET),
+        ["record", file, "--budget", n] => record_command(file, budget(n)?),
+        ["check-record", file, record] => check_record_command(file, record),
         ["vectors", "--check", dir] => check_vectors(dir),
         ["vectors", dir] => write_vectors(dir),
+        ["records", "--check", dir] => check_records(dir),
+        ["records", dir] => write_records(dir),
         ["pack", vectors, out] => pack_command(vectors, out),
         ["tables", "--check", vectors, dir] => check_run(vectors, dir, tables::summaries),
         ["tables", vectors, dir] => write_run(vectors, dir, tables::summaries),
@@ -116,24 +126,48 @@ fn answer_command(file: &str, budget: u32) -> Result<(), Failure> {
     print(&format!("{answer}\n"))
 }
 
-fn check_command(file: &str, output: &str, budget: u32) -> Result<(), Failure> {
-    if file == "-" && output == "-" {
-        let why = "only one of FILE and OUTPUT can be standard input";
+/// A guard file and a text about it.
+fn load_both(file: &str, text: &str) -> Result<(Vec<u8>, String), Failure> {
+    if file == "-" && text == "-" {
+        let why = "only one of the two files can be standard input";
         return Err(Failure::Usage(why.to_string()));
     }
-    let file = load(file)?;
-    let output = load_text(output)?;
+    Ok((load(file)?, load_text(text)?))
+}
+
+fn check_command(file: &str, output: &str, budget: u32) -> Result<(), Failure> {
+    let (file, output) = load_both(file, output)?;
     text::check(&file, &output, budget, Limits::BASE).map_err(Failure::Wrong)?;
     print("ok\n")
 }
 
+fn load_guard(file: &str) -> Result<Guard, Failure> {
+    read::read(&load(file)?, Limits::BASE)
+        .map_err(|question| Failure::Wrong(format!("the file is REFUSED {}", question.number())))
+}
+
 fn smt_command(file: &str) -> Result<(), Failure> {
-    match read::read(&load(file)?, Limits::BASE) {
-        Ok(guard) => print(&smt::script(&guard)),
-        Err(question) => Err(Failure::Wrong(format!(
-            "the file is REFUSED {}",
-            question.number()
+    print(&smt::script(&load_guard(file)?))
+}
+
+fn record_command(file: &str, budget: u32) -> Result<(), Failure> {
+    let guard = load_guard(file)?;
+    match record::record(&guard, budget) {
+        Some(record) => print(&format!("{}\n", vectors::hex(&record))),
+        None => Err(Failure::Wrong(format!(
+            "there is no record, the answer is {}",
+            answer_to(&guard, budget)
         ))),
+    }
+}
+
+fn check_record_command(file: &str, record: &str) -> Result<(), Failure> {
+    let (file, text) = load_both(file, record)?;
+    let record = vectors::unhex(text.trim_end())
+        .ok_or(Failure::Wrong(format!("{record} isn't hexadecimal")))?;
+    match record::check(&file, &record, Limits::BASE) {
+        Ok(()) => print("ok\n"),
+        Err(refusal) => Err(Failure::Wrong(format!("REFUSED {}", refusal.number()))),
     }
 }
 
@@ -145,13 +179,44 @@ fn write_vectors(dir: &str) -> Result<(), Failure> {
 }
 
 fn check_vectors(dir: &str) -> Result<(), Failure> {
-    let path = Path::new(dir).join("vectors.txt");
-    let found = load_text(&path.to_string_lossy())?;
+    let path = inside(dir, "vectors.txt");
+    let found = load_text(&path)?;
     let all = vectors::all();
-    match vectors::first_difference(&found, &vectors::text(&all)) {
-        None => print(&format!("ok, {} vectors\n", all.len())),
-        Some(difference) => Err(Failure::Wrong(format!("{}: {difference}", path.display()))),
+    ensure_same(&path, &found, &vectors::text(&all))?;
+    print(&format!("ok, {} vectors\n", all.len()))
+}
+
+/// The path of a file in a directory.
+fn inside(dir: &str, name: &str) -> String {
+    Path::new(dir).join(name).to_string_lossy().into_owned()
+}
+
+/// What was found in a file has to be this text.
+fn ensure_same(path: &str, found: &str, expected: &str) -> Result<(), Failure> {
+    match vectors::first_difference(found, expected) {
+        None => Ok(()),
+        Some(difference) => Err(Failure::Wrong(format!("{path}: {difference}"))),
     }
+}
+
+fn make_records(dir: &str) -> Result<Vec<Checked>, Failure> {
+    let vectors = load_vectors(&inside(dir, "vectors.txt"))?;
+    records::all(&vectors).map_err(Failure::Wrong)
+}
+
+fn write_records(dir: &str) -> Result<(), Failure> {
+    let all = make_records(dir)?;
+    let path = Path::new(dir).join("records.txt");
+    store(&path, records::text(&all).as_bytes())?;
+    print(&format!("{} records written\n", all.len()))
+}
+
+fn check_records(dir: &str) -> Result<(), Failure> {
+    let path = inside(dir, "records.txt");
+    let found = load_text(&path)?;
+    let all = make_records(dir)?;
+    ensure_same(&path, &found, &records::text(&all))?;
+    print(&format!("ok, {} records\n", all.len()))
 }
 
 fn load_vectors(path: &str) -> Result<Vec<Vector>, Failure> {
@@ -188,22 +253,20 @@ fn write_run(path: &str, dir: &str, lines: Lines) -> Result<(), Failure> {
 fn load_run(path: &str, dir: &str) -> Result<(Vec<Vector>, String, String), Failure> {
     let vectors = load_vectors(path)?;
     let packed = vectors::pack(&vectors).map_err(Failure::Wrong)?;
-    let stdin = Path::new(dir).join("stdin");
-    if load(&stdin.to_string_lossy())? != packed {
-        let why = format!("{} isn't the packed vectors", stdin.display());
+    let stdin = inside(dir, "stdin");
+    if load(&stdin)? != packed {
+        let why = format!("{stdin} isn't the packed vectors");
         return Err(Failure::Wrong(why));
     }
-    let stdout = Path::new(dir).join("stdout").to_string_lossy().into_owned();
+    let stdout = inside(dir, "stdout");
     let found = load_text(&stdout)?;
     Ok((vectors, stdout, found))
 }
 
 fn check_run(path: &str, dir: &str, lines: Lines) -> Result<(), Failure> {
     let (vectors, stdout, found) = load_run(path, dir)?;
-    match vectors::first_difference(&found, &lines(&vectors)) {
-        None => print(&format!("ok, a run of {} vectors\n", vectors.len())),
-        Some(difference) => Err(Failure::Wrong(format!("{stdout}: {difference}"))),
-    }
+    ensure_same(&stdout, &found, &lines(&vectors))?;
+    print(&format!("ok, a run of {} vectors\n", vectors.len()))
 }
 
 fn check_answers(path: &str, dir: &str) -> Result<(), Failure> {

@@ -17,6 +17,16 @@ pub enum Reason {
     Cycle,
 }
 
+impl Reason {
+    /// All reasons, in their order.
+    pub const ALL: [Reason; 4] = [
+        Reason::EmptyLabel,
+        Reason::UnequalLine,
+        Reason::Constants,
+        Reason::Cycle,
+    ];
+}
+
 /// The first reason that applies, in the order of document 01.
 pub fn closed(problem: &Problem, closure: &Closure) -> Option<Reason> {
     if problem

@@ -75,7 +75,7 @@ fn checks_printed_answers() {
 
 #[test]
 fn wrong_use_is_said() {
-    let cases: [&[&str]; 20] = [
+    let cases: [&[&str]; 26] = [
         &[],
         &["nonsense"],
         &["answer"],
@@ -88,7 +88,13 @@ fn wrong_use_is_said() {
         &["answer", "-", "--limit", "1"],
         &["check", "-", "-"],
         &["check", "-", "no such file"],
+        &["record", "no such file"],
+        &["record", "-", "--budget", "many"],
+        &["check-record", "-", "-"],
+        &["check-record", "-", "no such file"],
         &["vectors", "--check", "no such directory"],
+        &["records", "no such directory"],
+        &["records", "--check", "no such directory"],
         &["pack", "no such file", "out"],
         &["tables", "no such file", "."],
         &["tables", "--check", "no such file", "."],
@@ -103,6 +109,74 @@ fn wrong_use_is_said() {
         assert_eq!(output.status.code(), Some(2), "{words:?}: {said}");
         assert!(said.starts_with("oracle: "), "{words:?}: {said}");
         assert!(printed(&output).is_empty(), "{words:?}");
+    }
+}
+
+/// Document 01's case e: a list inside itself.
+const E: &[u8] = &[
+    2, 0, 2, 0, 2, 0, 1, 2, 0, 1, 3, 0, 1, 1, 2, 0, 0, 1, 2, 0, 1,
+];
+
+#[test]
+fn records_are_for_unsat_guards() {
+    assert_eq!(printed(&oracle(&["record", "-"], E)), "0300\n");
+    for (words, input, why) in [
+        (&["record", "-"][..], C, "the answer is SAT 3"),
+        (
+            &["record", "-", "--budget", "0"],
+            E,
+            "the answer is SPENT 0",
+        ),
+        (&["record", "-"], &[7], "the file is REFUSED 4"),
+    ] {
+        let output = oracle(words, input);
+        assert_eq!(output.status.code(), Some(1), "{why}");
+        assert!(String::from_utf8_lossy(&output.stderr).contains(why));
+    }
+}
+
+#[test]
+fn checks_records() {
+    let file = scratch("check-record").join("e");
+    fs::write(&file, E).expect("written");
+    let file = file.display().to_string();
+    let check = |record: &str| oracle(&["check-record", &file, "-"], record.as_bytes());
+    for record in ["0300", "0300\n", "03 01\n"] {
+        let output = check(record);
+        assert_eq!(printed(&output), "ok\n");
+        assert_eq!(output.status.code(), Some(0));
+    }
+    for (record, why) in [
+        ("-", "REFUSED 13"),
+        ("03", "REFUSED 12"),
+        ("0302", "REFUSED 12"),
+        ("030003", "REFUSED 13"),
+        ("3", "isn't hexadecimal"),
+        ("0x", "isn't hexadecimal"),
+    ] {
+        let output = check(record);
+        assert_eq!(output.status.code(), Some(1), "{record}");
+        assert!(String::from_utf8_lossy(&output.stderr).contains(why));
+    }
+}
+
+#[test]
+fn records_are_written_and_checked() {
+    let dir = scratch("records");
+    let kept = PathBuf::from(env!("CARGO_MANIFEST_DIR")).join("../vectors");
+    fs::copy(kept.join("vectors.txt"), dir.join("vectors.txt")).expect("copied");
+    let place = dir.display().to_string();
+    let code = |words: &[&str]| oracle(words, &[]).status.code();
+    assert_eq!(code(&["records", &place]), Some(0));
+    assert_eq!(code(&["records", "--check", &place]), Some(0));
+    let right = fs::read(dir.join("records.txt")).expect("the records");
+    assert_eq!(right, fs::read(kept.join("records.txt")).expect("kept"));
+    fs::write(dir.join("records.txt"), &right[..right.len() - 2]).expect("written");
+    assert_eq!(code(&["records", "--check", &place]), Some(1));
+    // Too few guards for each kind of damage, and wrong answers.
+    for vectors in ["", "x\t1\t000000\tUNSAT 1\n"] {
+        fs::write(dir.join("vectors.txt"), vectors).expect("written");
+        assert_eq!(code(&["records", &place]), Some(1));
     }
 }
 

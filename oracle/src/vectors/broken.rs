@@ -92,17 +92,23 @@ pub fn damage(random: &mut Random, question: Question) -> Vec<u8> {
 
 /// The file with one number in a wrong form.
 fn respelled(random: &mut Random, tokens: &[Token], at: usize) -> Vec<u8> {
-    let mut number = bytes(&tokens[at..=at]);
+    let number = wrong_form(random, &bytes(&tokens[at..=at]));
+    [bytes(&tokens[..at]), number, bytes(&tokens[at + 1..])].concat()
+}
+
+/// A number in a wrong form: in one byte too many, or another one, too large
+/// or without an end.
+pub(super) fn wrong_form(random: &mut Random, number: &[u8]) -> Vec<u8> {
     match random.below(3) {
         0 => {
-            let last = number.len() - 1;
-            number[last] |= 0x80;
-            number.push(0x00);
+            let mut longer = number.to_vec();
+            longer[number.len() - 1] |= 0x80;
+            longer.push(0x00);
+            longer
         }
-        1 => number = vec![0xff, 0x80, 0xff, 0x80, 0x10 + random.below(0x70) as u8],
-        _ => number = vec![0x80 + random.below(0x80) as u8; 5],
+        1 => vec![0xff, 0x80, 0xff, 0x80, 0x10 + random.below(0x70) as u8],
+        _ => vec![0x80 + random.below(0x80) as u8; 5],
     }
-    [bytes(&tokens[..at]), number, bytes(&tokens[at + 1..])].concat()
 }
 
 /// Types that are likely to lack a default or a field that can grow; the file
@@ -221,21 +227,26 @@ fn prefixes(set: &mut Set) {
     }
 }
 
+/// One byte is changed, dropped or put in.
+pub(super) fn change_byte(random: &mut Random, bytes: &mut Vec<u8>) {
+    let at = random.below(bytes.len());
+    match random.below(4) {
+        0 => {
+            bytes.remove(at);
+        }
+        1 => bytes.insert(at, random.below(5) as u8),
+        2 => bytes[at] ^= 1 << random.below(8),
+        _ => bytes[at] = random.below(6) as u8,
+    }
+}
+
 /// Accepted files with one byte changed, dropped or put in: any answer.
 fn chance(set: &mut Set) {
     let mut random = Random::named("damaged");
     let mut kept = 0;
     while kept < 120 {
         let mut file = whole(&mut random).bytes();
-        let at = random.below(file.len());
-        match random.below(4) {
-            0 => {
-                file.remove(at);
-            }
-            1 => file.insert(at, random.below(5) as u8),
-            2 => file[at] ^= 1 << random.below(8),
-            _ => file[at] = random.below(6) as u8,
-        }
+        change_byte(&mut random, &mut file);
         // Long searches have their own family.
         if !matches!(answer(&file, 300, Limits::BASE), Answer::Spent { .. }) {
             set.add(format!("damaged-{kept:03}"), USUAL_BUDGET, &file);

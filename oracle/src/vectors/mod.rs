@@ -5,6 +5,7 @@ mod cases;
 mod families;
 mod numbers;
 pub mod profiles;
+pub mod records;
 mod walks;
 
 use crate::answer::{answer, Answer};
@@ -76,10 +77,19 @@ pub fn text(vectors: &[Vector]) -> String {
 
 /// Reads the text of `vectors.txt`.
 pub fn parse(text: &str) -> Result<Vec<Vector>, String> {
+    parse_lines(text, "a vector", parse_line)
+}
+
+/// Reads each line but the comments.
+fn parse_lines<T>(
+    text: &str,
+    what: &str,
+    parse_line: fn(&str) -> Option<T>,
+) -> Result<Vec<T>, String> {
     let lines = text.lines().enumerate();
     lines
         .filter(|(_, line)| !line.starts_with('#'))
-        .map(|(i, line)| parse_line(line).ok_or(format!("line {} isn't a vector", i + 1)))
+        .map(|(i, line)| parse_line(line).ok_or(format!("line {} isn't {what}", i + 1)))
         .collect()
 }
 
