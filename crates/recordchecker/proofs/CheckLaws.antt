@@ -25,7 +25,7 @@ use Rattle.problem.specs.Problem.{fieldlessOf, readsOf, shapesOf, sortsOf}
 use Rattle.saturation.specs.Due.{allDue}
 use Rattle.cycles.specs.Cycles.{Tells}
 use Rattle.search.specs.Nodes.{Accepted, ArraysOf, Begun}
-use Rattle.search.proofs.ClosedState.{agreed, literals-in}
+use Rattle.search.proofs.ClosedState.{agreed, arrived, is-begins, isnt-begins, literals-in}
 use Rattle.refutations.specs.Checker.{below, checkFrom, checkNode, entry}
 use Rattle.refutations.specs.Record.{Entry, Entry.splitOn, claim}
 use Rattle.refutations.proofs.Depth.{check-step}
@@ -35,7 +35,7 @@ use Rattle.claims.proofs.ClaimsSame.{closes-same, splits-same}
 use Rattle.recordchecker.specs.declared.EntryRead.{EntryRead}
 use Rattle.recordchecker.specs.declared.NodeRead.{NodeRead}
 use Rattle.recordchecker.specs.Checks.{Checks, EntrySays}
-use Rattle.recordchecker.proofs.Children.{arrived, is-begins, isnt-begins, split-term, split-variant}
+use Rattle.recordchecker.proofs.Children.{split-term, split-variant}
 
 -- a node with a byte left begins with an entry
 node-reads : (holds : Entry → Bool) (child : Literal → Parser (Unit {0})) (bs : List ℕ) → 0 < length bs → checkNode holds child bs ≡ andThen (λ e. ask 12 (holds e) >> below child e) (entry bs)

@@ -13,6 +13,7 @@ use Rattle.laws.specs.Lists.{concatMap}
 use Rattle.laws.proofs.Lists.{all-mem, all-of}
 use Rattle.guard.specs.Closure.{Fact, Fact.within, LacksAt, State, add, allVariants, closureOf, consequences, constants, everyVariant, given, holds, ofLiteral, oneVariant, pairwise}
 use Rattle.guard.specs.Guard.{Guard, Literal, Literal.is, Literal.isnt, Literal.unequal}
+use Rattle.guard.specs.Limits.{variantLimit}
 use Rattle.guard.specs.Node.{Split, isClosed, splitOf}
 use Rattle.guard.specs.Terms.{Table, Term, tableOf, termCount}
 use Rattle.guard.specs.Types.{variantsOf}
@@ -107,31 +108,45 @@ module _ (t : Table) (ls : List Literal) (l : Literal) where
 
 module _ (g : Guard) (ok : Accepted g) (ls : List Literal) (s : State) (begun : Begun g ls s) (s′ : State)
     (steps : Steps (allDue (shapesOf g) (readsOf g) (sortsOf g) (fieldlessOf g)) s s′) where
-  there : Reached (tableOf g) ls 96 s′
-  there =
+  pub arrived : Reached (tableOf g) ls 96 s′
+  arrived =
       steps-reach (tableOf g) ls 96 (λ x r f m. all-follow (ok .limits) (ok .supported) g (ok .wellFormed) (ok .total) x (reached-small r) f m) steps (begun .reached)
 
   range : LiteralsInRange ls
   range = literals-in g ok (begun .node)
 
+  still-says : All (Says s′) (given (tableOf g) ls)
+  still-says = all-of (given (tableOf g) ls) (λ f m. says-kept (steps-keep steps) f (all-mem (begun .says) f m))
+
   -- an empty label closes the node
   pub closes-early : lowest (emptyAt (sortsOf g) (fullOf g) s′) 78 < 78 → isClosed (tableOf g) ls (closureOf (tableOf g) ls) ≡ true
   closes-early h =
-      reached-empty (tableOf g) ls (in-range g ok) range 96 (omega arith) s′ there
+      reached-empty (tableOf g) ls (in-range g ok) range 96 (omega arith) s′ arrived
       (sym (empty-same (ok .limits) (ok .supported) g (ok .wellFormed) (ok .total) s′) ∙ lt-ltb _ 78 h)
+
+  -- a child begins with one decision more
+  begins : (l : Literal) (f : Fact) → ofLiteral l ≡ f ∷ [] → NodeLiterals g (l ∷ ls) → Begun g (l ∷ ls) (add s′ f)
+  begins l f e node = record { node = node; reached = reached-next (tableOf g) ls l f e arrived; says = says-more (tableOf g) ls l s′ f e still-says }
+
+  module _ (i v : ℕ) (hi : i < termCount) (hv : v < variantLimit) where
+    pub is-begins : Begun g (is i v ∷ ls) (add s′ (within i (2 ^ v)))
+    is-begins = begins (is i v) (within i (2 ^ v)) refl (atIs (begun .node) i v hi hv)
+
+    pub isnt-begins : Begun g (isnt i v ∷ ls) (add s′ (within i (everyVariant - 2 ^ v)))
+    isnt-begins = begins (isnt i v) (within i (everyVariant - 2 ^ v)) refl (atIsnt (begun .node) i v hi hv)
 
 -- ---- after saturation
 
 module _ (g : Guard) (ok : Accepted g) (ls : List Literal) (s : State) (begun : Begun g ls s) (s′ : State)
     (sat : Saturated (allDue (shapesOf g) (readsOf g) (sortsOf g) (fieldlessOf g)) s s′) where
-  arrived : Reached (tableOf g) ls 96 s′
-  arrived = there g ok ls s begun s′ (sat .steps)
+  here : Reached (tableOf g) ls 96 s′
+  here = arrived g ok ls s begun s′ (sat .steps)
 
   small : Small s′
-  small = reached-small arrived
+  small = reached-small here
 
   says : All (Says s′) (given (tableOf g) ls)
-  says = all-of (given (tableOf g) ls) (λ f m. says-kept (steps-keep (sat .steps)) f (all-mem (begun .says) f m))
+  says = still-says g ok ls s begun s′ (sat .steps)
 
   quiet : All (λ f. holds s′ f ≡ true) (consequences (tableOf g) s′)
   quiet = nothing-new (ok .limits) (ok .supported) g (ok .wellFormed) (ok .total) s′ small (sat .quiet)
@@ -140,15 +155,15 @@ module _ (g : Guard) (ok : Accepted g) (ls : List Literal) (s : State) (begun : 
   in-range-here = literals-in g ok (begun .node)
 
   pub agreed : Agrees s′ (closureOf (tableOf g) ls)
-  agreed = reached-agrees (tableOf g) ls (in-range g ok) in-range-here 96 (omega arith) s′ arrived says quiet
+  agreed = reached-agrees (tableOf g) ls (in-range g ok) in-range-here 96 (omega arith) s′ here says quiet
 
   beyond : (x : Term) → List·Memᴰ x (tableOf g .terms) → (v : ℕ) → length (variantsOf (tableOf g .types) (x .type)) ≤ v → LacksAt s′ (x .term) v
-  beyond x m v h = any-order (tableOf g) ls (in-range g ok) in-range-here 96 (omega arith) s′ arrived says quiet .rules .beyond x v m h
+  beyond x m v h = any-order (tableOf g) ls (in-range g ok) in-range-here 96 (omega arith) s′ here says quiet .rules .beyond x v m h
 
   pub closes : Held (s′ .classes) → closedBy (shapesOf g) (sortsOf g) (fullOf g) (constantsOf g) (rowTable (g .types) (g .rows) .values) (literalTable (g .literals) .kinds) (literalTable (g .literals) .terms) (literalTable (g .literals) .others) (literalTable (g .literals) .many) s′
       ≡ isClosed (tableOf g) ls (closureOf (tableOf g) ls)
   closes held =
-      closed-same (ok .limits) (ok .supported) g (ok .wellFormed) (ok .total) s′ small held (λ i h. omega (arith, named-reached arrived .low i)) ls (unequal-given (begun .node)) (unequal-kept (begun .node))
+      closed-same (ok .limits) (ok .supported) g (ok .wellFormed) (ok .total) s′ small held (λ i h. omega (arith, named-reached here .low i)) ls (unequal-given (begun .node)) (unequal-kept (begun .node))
       ∙ closed-agrees (tableOf g) ls (in-range g ok) in-range-here s′ (closureOf (tableOf g) ls) agreed
 
   pub splits : splitBy (readsOf g) (sortsOf g) (fieldlessOf g) s′ ≡ splitOf (tableOf g) (closureOf (tableOf g) ls)
@@ -166,17 +181,7 @@ module _ (g : Guard) (ok : Accepted g) (ls : List Literal) (s : State) (begun : 
     inside = in-range g ok .terms (record { term = d .term; type = at .type }) (at .term) .0
 
     pub is-begun : Begun g (is (d .term) (d .variant) ∷ ls) (add s′ (within (d .term) (2 ^ (d .variant))))
-    is-begun =
-        record {
-          node = atIs (begun .node) (d .term) (d .variant) inside (at .variant);
-          reached = reached-next (tableOf g) ls (is (d .term) (d .variant)) (within (d .term) (2 ^ (d .variant))) refl arrived;
-          says = says-more (tableOf g) ls (is (d .term) (d .variant)) s′ (within (d .term) (2 ^ (d .variant))) refl says;
-        }
+    is-begun = is-begins g ok ls s begun s′ (sat .steps) (d .term) (d .variant) inside (at .variant)
 
     pub isnt-begun : Begun g (isnt (d .term) (d .variant) ∷ ls) (add s′ (within (d .term) (everyVariant - 2 ^ (d .variant))))
-    isnt-begun =
-        record {
-          node = atIsnt (begun .node) (d .term) (d .variant) inside (at .variant);
-          reached = reached-next (tableOf g) ls (isnt (d .term) (d .variant)) (within (d .term) (everyVariant - 2 ^ (d .variant))) refl arrived;
-          says = says-more (tableOf g) ls (isnt (d .term) (d .variant)) s′ (within (d .term) (everyVariant - 2 ^ (d .variant))) refl says;
-        }
+    isnt-begun = isnt-begins g ok ls s begun s′ (sat .steps) (d .term) (d .variant) inside (at .variant)

@@ -20,7 +20,7 @@ returns-2 : tie.Need-returns-2
 returns-2 c =
     let a = c .before .before .before .before .args in
     λ e u h. not-one (a .sorts .now) (a .fieldless .now) (state (a .classes .now) (a .labels .now)) (a .x) (c .size .result) u h
-        (c .size .ensures ∙ ap (λ (m : ℕ). length (variantsIn m)) (c .before .label-of .ensures)) (omega (arith, ltb-false (c .size .result) 2 e))
+    (c .size .ensures ∙ ap (λ (m : ℕ). length (variantsIn m)) (c .before .label-of .ensures)) (omega (arith, ltb-false (c .size .result) 2 e))
 
 pub may-be-alone-spec : {M : Type 1} → statement M
 may-be-alone-spec = tie.close (tie.spec (λ c κs. search needs) returns (λ c κs. search needs) (λ c κs. search needs) returns-2)
