@@ -26,6 +26,10 @@ pub record Writes (shapes reads sorts full fieldless constants : List ℕ) (valu
 
 -- ---- the whole record
 
+-- of a guard that a reader took, from the start of the buffer on
+pub record RootPuts (tables : Tables) (out : List ℕ) (r : End) (out′ : List ℕ) : Type 0 where
+  pub puts : (g : Guard) → Accepted g → tables ≡ guardTables g → Puts (recordBytes g) out 0 r out′
+
 -- bytes, and then zeros: "the rest is 0"; nothing but zeros where they outgrow so much room
 abbrev pub filled : List ℕ → ℕ → List ℕ
 filled bytes room = cond (leb (length bytes) room) (bytes ++ replicate (room - length bytes) 0) (replicate room 0)
@@ -34,11 +38,11 @@ filled bytes room = cond (leb (length bytes) room) (bytes ++ replicate (room - l
 abbrev pub writtenOf : List ℕ → ℕ → Written
 writtenOf bytes room = cond (leb (length bytes) room) (record { fits = true; many = length bytes }) (record { fits = false; many = 0 })
 
--- "writes an UNSAT walk into a lent byte buffer": of a guard that a reader took
-unfoldable pub Records : Tables → Written → List ℕ → List ℕ → Type 0
-Records tables r out out′ =
-    (g : Guard) → Accepted g → tables ≡ guardTables g → (r ≡ writtenOf (recordBytes g) (length out)) × (out′ ≡ filled (recordBytes g) (length out))
+-- "writes an UNSAT walk into a lent byte buffer": of the answer r, and the buffer as it was and as it is left
+pub record Records (tables : Tables) (r : Written) (out out′ : List ℕ) : Type 0 where
+  pub says : (g : Guard) → Accepted g → tables ≡ guardTables g → r ≡ writtenOf (recordBytes g) (length out)
+  pub left : (g : Guard) → Accepted g → tables ≡ guardTables g → out′ ≡ filled (recordBytes g) (length out)
 
--- "The written bytes are handed back as the filled front part of that buffer": the record, or nothing where it outgrows the buffer
-unfoldable pub IsRecord : Tables → ℕ → List ℕ → Type 0
-IsRecord tables room part = (g : Guard) → Accepted g → tables ≡ guardTables g → part ≡ cond (leb (length (recordBytes g)) room) (recordBytes g) []
+-- "The written bytes are handed back as the filled front part of that buffer": the record, or nothing where it outgrows so much room
+pub record IsRecord (tables : Tables) (room : ℕ) (part : List ℕ) : Type 0 where
+  pub is : (g : Guard) → Accepted g → tables ≡ guardTables g → part ≡ cond (leb (length (recordBytes g)) room) (recordBytes g) []
