@@ -1,0 +1,4 @@
+pub mod TermClasses
+pub mod ClaimsAgree
+pub mod UnlikeLaws
+pub mod ClosingLaws

@@ -1,0 +1,3 @@
+pub mod EntryBytes
+pub mod WriteLaws
+pub mod RecordLaws

@@ -1,0 +1,48 @@
+-- What is written: the bytes of a node's entries, from a place on; and the whole record of a guard. Assumes nothing: definitions.
+-- Quoted sentences are document 02's, of request #101.
+use mathlib.Core.Path.{_≡_}
+use mathlib.Core.Bool.{true, false, cond}
+use mathlib.Core.List.{List, [], _++_}
+use Prim.Native.Nat.{ℕ, _-_}
+use lib.Dec.{leb}
+use lib.IntN.{ℤ}
+use lib.ListN.{length, replicate}
+use Rattle.laws.specs.Lists.{concatMap}
+use Rattle.guard.specs.Closure.{State}
+use Rattle.guard.specs.Guard.{Guard, Literal}
+use Rattle.guard.specs.Terms.{tableOf}
+use Rattle.reader.specs.declared.Tables.{Tables}
+use Rattle.reader.specs.Reader.{guardTables}
+use Rattle.search.specs.Nodes.{Accepted, ArraysOf, Begun}
+use Rattle.refutations.specs.Record.{bytesOf, entries, recordBytes}
+use Rattle.bytebuffer.specs.declared.End.{End}
+use Rattle.bytebuffer.specs.Puts.{Puts}
+use Rattle.recordwriter.specs.declared.Written.{Written}
+
+-- From a node that has begun: the bytes of its entries are put, as far as they fit.
+pub record Writes (shapes reads sorts full fieldless constants : List ℕ) (values : List ℤ) (kinds terms others : List ℕ) (many : ℕ) (s : State) (out : List ℕ) (at : ℕ) (r : End) (out′ : List ℕ) : Type 0 where
+  pub puts : (g : Guard) (ls : List Literal) → Accepted g → ArraysOf g shapes reads sorts full fieldless constants values kinds terms others many → Begun g ls s
+      → Puts (concatMap bytesOf (entries (tableOf g) (g .literals) ls)) out at r out′
+
+-- ---- the whole record
+
+-- of a guard that a reader took, from the start of the buffer on
+pub record RootPuts (tables : Tables) (out : List ℕ) (r : End) (out′ : List ℕ) : Type 0 where
+  pub puts : (g : Guard) → Accepted g → tables ≡ guardTables g → Puts (recordBytes g) out 0 r out′
+
+-- bytes, and then zeros: "the rest is 0"; nothing but zeros where they outgrow so much room
+abbrev pub filled : List ℕ → ℕ → List ℕ
+filled bytes room = cond (leb (length bytes) room) (bytes ++ replicate (room - length bytes) 0) (replicate room 0)
+
+-- whether they fit, and how many there are then
+abbrev pub writtenOf : List ℕ → ℕ → Written
+writtenOf bytes room = cond (leb (length bytes) room) (record { fits = true; many = length bytes }) (record { fits = false; many = 0 })
+
+-- "writes an UNSAT walk into a lent byte buffer": of the answer r, and the buffer as it was and as it is left
+pub record Records (tables : Tables) (r : Written) (out out′ : List ℕ) : Type 0 where
+  pub says : (g : Guard) → Accepted g → tables ≡ guardTables g → r ≡ writtenOf (recordBytes g) (length out)
+  pub left : (g : Guard) → Accepted g → tables ≡ guardTables g → out′ ≡ filled (recordBytes g) (length out)
+
+-- "The written bytes are handed back as the filled front part of that buffer": the record, or nothing where it outgrows so much room
+pub record IsRecord (tables : Tables) (room : ℕ) (part : List ℕ) : Type 0 where
+  pub is : (g : Guard) → Accepted g → tables ≡ guardTables g → part ≡ cond (leb (length (recordBytes g)) room) (recordBytes g) []
