@@ -1,14 +1,16 @@
--- What a program in another language is given by its call: the answer as three numbers, and a return code. Assumes nothing:
+-- What a program in another language is given by its calls: the answer as three numbers, and a return code or the length of a record. Assumes nothing:
 -- definitions.
 use mathlib.Core.Path.{_≡_}
 use mathlib.Core.List.{List, [], _∷_, _++_}
-use Prim.Native.Nat.{ℕ, _≤_, _<_}
+use Prim.Native.Nat.{ℕ, _-_, _^_, _≤_, _<_}
 use lib.IntN.{ℤ}
 use lib.ListN.{length, drop}
 use Rattle.guard.specs.Limits.{Limits}
 use Rattle.guard.specs.declared.Answer.{Answer}
 use Rattle.guard.specs.declared.Answer.the-variants.{Refused, Sat, Unsat, Spent}
 use Rattle.decide.specs.Decides.{Decides}
+use Rattle.explain.specs.Explains.{Explains}
+use Rattle.explain.specs.declared.Explained.{Explained}
 
 -- the numbers of an answer: its verdict (0 REFUSED, 1 SAT, 2 UNSAT, 3 SPENT); the question that got a no, the node count
 -- or the budget; and how many rows are shown, none but after SAT
@@ -41,3 +43,20 @@ pub record Links (limits : Limits) (bytes : List ℕ) (budget : ℕ) (rows place
   -- an answer buffer that is too short: the code says so, and nothing is written
   pub short : length numbers < answerLength → (code ≡ shortCode) × ((rows′ ≡ rows) × ((places′ ≡ places) × (numbers′ ≡ numbers)))
   pub enough : answerLength ≤ length numbers → (code ≡ answeredCode) × Answers limits bytes budget rows places numbers rows′ places′ numbers′
+
+-- ---- the second call
+
+-- what is returned where the answer buffer is too short: the largest number that there is
+abbrev pub shortBytes : ℕ
+shortBytes = 2 ^ 64 - 1
+
+-- a call that was answered, with a record of so many bytes
+pub record ExplainedAnswers (limits : Limits) (bytes : List ℕ) (budget : ℕ) (rows places : List ℤ) (lent numbers : List ℕ) (many : ℕ) (rows′ places′ : List ℤ) (lent′ numbers′ : List ℕ) : Type 0 where
+  pub answer : Answer
+  pub explained : Explains limits bytes budget rows places lent (record { answer = answer; bytes = many }) rows′ places′ lent′
+  pub told : numbers′ ≡ answerNumbers answer ++ drop answerLength numbers
+
+-- of the number returned, and the row buffer, the place buffer, the record buffer and the answer buffer
+pub record LinksExplained (limits : Limits) (bytes : List ℕ) (budget : ℕ) (rows places : List ℤ) (lent numbers : List ℕ) (many : ℕ) (rows′ places′ : List ℤ) (lent′ numbers′ : List ℕ) : Type 0 where
+  pub short : length numbers < answerLength → (many ≡ shortBytes) × ((rows′ ≡ rows) × ((places′ ≡ places) × ((lent′ ≡ lent) × (numbers′ ≡ numbers))))
+  pub enough : answerLength ≤ length numbers → ExplainedAnswers limits bytes budget rows places lent numbers many rows′ places′ lent′ numbers′

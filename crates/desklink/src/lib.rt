@@ -1,4 +1,4 @@
-// The desk's one call for programs in other languages, numbers and slices only; a slice is a pointer and a length there.
+// The desk's calls for programs in other languages, numbers and slices only; a slice is a pointer and a length there.
 // `specs/Links.antt` says what it gives, link/guarddesk.h declares it for C, link/rust wraps it for Rust.
 use guard::Answer;
 ghost use mathlib.Core.Path.{_≡_};
@@ -6,7 +6,9 @@ ghost use mathlib.Core.List.{_∷_, _++_};
 ghost use Prim.Native.Nat.{_≤_};
 ghost use lib.ListN.{length, drop};
 ghost use Rattle.guard.specs.Limits.{base};
-ghost use Rattle.desklink.specs.Links.{Links, answerNumbers};
+ghost use Rattle.refutations.specs.Checker.{checked};
+ghost use Rattle.recordchecker.specs.Checks.{answer};
+ghost use Rattle.desklink.specs.Links.{Links, LinksExplained, answerNumbers};
 
 // Three numbers in front of the buffer.
 fn put(numbers: &mut [u32], verdict: u32, number: u32, rows: u32)
@@ -49,4 +51,34 @@ pub extern "C" fn guarddesk_decide(
     let answer = decide::decide(file, budget, rows, places);
     put_answer(numbers, answer);
     0
+}
+
+// The same, and after UNSAT the record of the search in front of `record`, zeros behind; all zeros after every other answer. Returns the
+// number of the record's bytes, or the largest number that there is if `numbers` is too short; then nothing is written.
+#[no_mangle]
+pub extern "C" fn guarddesk_explain(
+    file: &[u8],
+    budget: u32,
+    rows: &mut [i32],
+    places: &mut [i32],
+    record: &mut [u8],
+    numbers: &mut [u32],
+) -> usize
+    ensures { λ r. ⌜ LinksExplained base (now (file .entry)) budget (now (rows .entry)) (now (places .entry)) (now («record» .entry)) (now (numbers .entry)) r (now (rows .exit)) (now (places .exit)) (now («record» .exit)) (now (numbers .exit)) ⌝ }
+{
+    if numbers.len() < 3 {
+        return 18446744073709551615;
+    }
+    let e = explain::explain(file, budget, rows, places, record);
+    let answer = e.answer;
+    put_answer(numbers, answer);
+    e.bytes
+}
+
+// The first question that gets a no when a record is read against a guard file, or 0: then no messages make the guard hold.
+#[no_mangle]
+pub extern "C" fn guarddesk_check(file: &[u8], record: &[u8]) -> u32
+    ensures { λ r. ⌜ answer r ≡ checked base (now (file .entry)) (now («record» .entry)) ⌝ }
+{
+    recordchecker::check(file, record)
 }
