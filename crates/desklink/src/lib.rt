@@ -66,7 +66,7 @@ pub extern "C" fn guarddesk_explain(
 ) -> usize
     ensures { λ r. ⌜ LinksExplained base (now (file .entry)) budget (now (rows .entry)) (now (places .entry)) (now («record» .entry)) (now (numbers .entry)) r (now (rows .exit)) (now (places .exit)) (now («record» .exit)) (now (numbers .exit)) ⌝ }
 {
-    if numbers.len() < 3 {
+    if numbers.len() <= 2 {
         return 18446744073709551615;
     }
     let e = explain::explain(file, budget, rows, places, record);
