@@ -1,12 +1,9 @@
 // The search over decisions, depth first, with a budget of nodes. `specs/` says what it gives.
-use problem::Problem;
-use reader::Tables;
 ghost use mathlib.Core.Path.{_≡_};
 ghost use Prim.Native.Nat.{_<_};
-ghost use Rattle.problem.specs.Columns.{problemBy};
 ghost use Rattle.classes.specs.Held.{Held, state};
-ghost use Rattle.search.specs.Outcome.{isClosedOutcome, isOpenOutcome, leftOf};
-ghost use Rattle.search.specs.Nodes.{ArraysFit, ClearedUnlessOpen, Finds, GuardsTables, Searches, StateFit};
+ghost use Rattle.search.specs.Outcome.{isClosedOutcome, leftOf};
+ghost use Rattle.search.specs.Nodes.{ArraysFit, Searches, StateFit};
 
 // How a search ends, with the nodes left of its budget.
 pub enum Outcome {
@@ -25,16 +22,6 @@ fn is_closed(o: Outcome) -> bool
     }
 }
 
-fn is_open(o: Outcome) -> bool
-    ensures { λ r. ⌜ r ≡ isOpenOutcome o ⌝ }
-{
-    match o {
-        Outcome::Open(n) => true,
-        Outcome::Closed(n) => false,
-        Outcome::Spent => false,
-    }
-}
-
 fn left_of(o: Outcome) -> u32
     ensures { λ r. ⌜ r ≡ leftOf o ⌝ }
 {
@@ -47,7 +34,7 @@ fn left_of(o: Outcome) -> u32
 
 // A node from the state that it begins with: its closure, then closed, open, or its children, "is" before "isn't". The
 // arrays come back with the closure of the open node, where one was found.
-fn visit(
+pub fn visit(
     classes: &mut [u8; 96],
     labels: &mut [u16; 96],
     shapes: &[u16; 256],
@@ -151,74 +138,4 @@ fn visit(
         many,
         left_of(first),
     )
-}
-
-// The search of an accepted guard with its problem, whatever the arrays held. They come back with the classes and the labels of the open
-// node, where one was found, and all zero otherwise.
-pub fn search(
-    tables: Tables,
-    problem: Problem,
-    budget: u32,
-    classes: &mut [u8; 96],
-    labels: &mut [u16; 96],
-) -> Outcome
-    requires { ⌜ GuardsTables tables ⌝ }
-    requires { ⌜ problem ≡ problemBy tables ⌝ }
-    ensures { λ r. ⌜ Finds tables budget r (now (classes .exit)) (now (labels .exit)) ⌝ }
-    ensures { λ r. ⌜ ClearedUnlessOpen r (now (classes .exit)) (now (labels .exit)) ⌝ }
-    ensures { λ r. ⌜ Held (now (classes .exit)) ⌝ }
-{
-    let shapes = problem.shapes;
-    let reads = problem.reads;
-    let sorts = problem.sorts;
-    let full = problem.full;
-    let fieldless = problem.fieldless;
-    let constants = problem.constants;
-    let list = labelled::labelled_terms(&sorts, &full, &fieldless);
-    let labelled = list.terms;
-    let rows = tables.rows;
-    let values = rows.values;
-    let literals = tables.literals;
-    let kinds = literals.kinds;
-    let terms = literals.terms;
-    let others = literals.others;
-    let many = literals.many;
-    *classes = [0u8; 96];
-    *labels = [0u16; 96];
-    given::begin(
-        classes,
-        labels,
-        &shapes,
-        &sorts,
-        &full,
-        &constants,
-        &values,
-        &kinds,
-        &terms,
-        &others,
-        many,
-    );
-    let r = visit(
-        classes,
-        labels,
-        &shapes,
-        &reads,
-        &sorts,
-        &full,
-        &fieldless,
-        &labelled,
-        list.many,
-        &constants,
-        &values,
-        &kinds,
-        &terms,
-        &others,
-        many,
-        budget,
-    );
-    if !is_open(r) {
-        *classes = [0u8; 96];
-        *labels = [0u16; 96];
-    }
-    r
 }

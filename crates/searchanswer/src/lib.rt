@@ -19,7 +19,7 @@ pub fn answer_search(tables: Tables, budget: u32, rows: &mut [i32], places: &mut
     let problem = problem::problem_of(tables);
     let mut classes = [0u8; 96];
     let mut labels = [0u16; 96];
-    let o = search::search(tables, problem, budget, &mut classes, &mut labels);
+    let o = rootsearch::search_guard(tables, problem, budget, &mut classes, &mut labels);
     match o {
         Outcome::Open(left) => {
             answer_open(

@@ -39,7 +39,7 @@ fn answer(file: &[u8], budget: u32) {
     let problem = problem::problem_of(t);
     let mut classes = [0u8; 96];
     let mut labels = [0u16; 96];
-    let o = search::search(t, problem, budget, &mut classes, &mut labels);
+    let o = rootsearch::search_guard(t, problem, budget, &mut classes, &mut labels);
     print_outcome(budget, o);
 }
 

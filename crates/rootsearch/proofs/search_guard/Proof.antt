@@ -1,11 +1,11 @@
--- `search` meets its contract. Assumes nothing.
+-- `search_guard` meets its contract. Assumes nothing.
 use mathlib.Core.Path.{_∙_, refl, sym}
 use borrow.Author.Tests.{not-false, not-true}
 use Rattle.classes.specs.Held.{state}
 use Rattle.search.proofs.RootLaws.{arrays-fit, fit-root, found, is-found, literals-fit-here, nothing-found, shapes-fit-here, sorts-fit-here}
 use borrow.Author.Needs.{needs}
-use Rattle.search.proofs.search.Statement.{statement}
-use Rattle.search.proofs.search.Tie as tie
+use Rattle.rootsearch.proofs.search_guard.Statement.{statement}
+use Rattle.rootsearch.proofs.search_guard.Tie as tie
 
 labelled-terms-requires : tie.Need-labelled-terms-requires
 labelled-terms-requires c κs =
@@ -40,7 +40,7 @@ returns-2 c =
     let gt = c .before .before .before .before .before .before .before .before .before .before .before .before .before .before .before .before .before .before .before .before .before .before .before .before .before .before .before .before .before .before .before .before .before .before .before .before .before .before .before .before .before .before .before .before .before .before .pre in
     (found (a .tables) (a .budget) (c .before .before .visit .result) (state (c .before .before .before .before .before .before .before .before .before .before .before .before .before .before .before .before .begin .last .0) (c .before .before .before .before .before .before .before .before .before .before .before .before .before .before .before .before .begin .last .1 .0)) (c .before .before .visit .last .0) (c .before .before .visit .last .1 .0) (a .problem) (gt .1) (c .before .before .before .before .before .before .before .before .before .before .before .before .before .before .before .before .begin .ensures .0) (c .before .before .visit .ensures .0), (is-found (c .before .before .visit .result) (c .before .before .visit .last .0) (c .before .before .visit .last .1 .0) (sym (c .before .is-open .ensures) ∙ not-false _ (c .if1 .left)), c .before .before .visit .ensures .1))
 
-pub search-spec : {M : Type 1} → statement M
-search-spec =
+pub search-guard-spec : {M : Type 1} → statement M
+search-guard-spec =
     tie.close
     (tie.spec labelled-terms-requires begin-requires visit-requires is-open-requires returns returns-2)
