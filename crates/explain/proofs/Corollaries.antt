@@ -21,7 +21,7 @@ use Rattle.refutations.specs.Record.{recordBytes}
 use Rattle.refutations.proofs.Theorems.{at-most-three, record-checked}
 use Rattle.decide.proofs.Decided.{questions-file, unsat-closed}
 use Rattle.explain.specs.declared.Explained.{Explained}
-use Rattle.explain.specs.Explains.{Explains, askRecord, explained, explainedBy, padded, recordAfter, recordBy, recorded}
+use Rattle.explain.specs.Explains.{Explains, askRecord, explained, explainedBy, recordAfter, recordBy, recorded}
 
 -- after UNSAT the desk said so too, and the record is the guard's
 unsat-asked : (room : ℕ) (g : Guard) (o : Outcome) (n : ℕ) → askRecord room g o ≡ unsat n → (o ≡ unsat n) × (recordAfter g (askRecord room g o) ≡ recordBytes g)

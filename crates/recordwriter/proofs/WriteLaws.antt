@@ -24,7 +24,7 @@ use Rattle.splits.specs.declared.Choice.{Choice}
 use Rattle.splits.specs.Choice.{choiceOf, splitBy}
 use Rattle.search.specs.Nodes.{Accepted, ArraysOf, Begun, NodeLiterals, NodeLiterals.atIs, NodeLiterals.atIsnt, NodeLiterals.atRoot, StateFit}
 use Rattle.search.proofs.ClosedState.{agreed, is-begun, isnt-begun, literals-in, splits}
-use Rattle.refutations.specs.Record.{Entry, Entry.splitOn, bytesOf, claim, closing, closings, entries, ofNode}
+use Rattle.refutations.specs.Record.{Entry, bytesOf, claim, closing, closings, entries, ofNode}
 use Rattle.refutations.proofs.Depth.{entries-step}
 use Rattle.closings.specs.declared.Closing.{Closing}
 use Rattle.closings.specs.Closing.{Names, closingOf}

@@ -5,7 +5,7 @@ use reader::Tables;
 ghost use mathlib.Core.Bool.{true};
 ghost use mathlib.Core.Path.{_≡_};
 ghost use Prim.Native.Nat.{_≤_};
-ghost use lib.ListN.{length, replicate};
+ghost use lib.ListN.{length};
 ghost use Rattle.problem.specs.Columns.{problemBy};
 ghost use Rattle.classes.specs.Held.{state};
 ghost use Rattle.search.specs.Nodes.{ArraysFit, GuardsTables, StateFit};

@@ -1,19 +1,18 @@
 -- `write_node` meets its contract: the number that falls is the total of the label sizes. Assumes nothing.
-use mathlib.Core.Path.{_≡_, ap}
-use native.Mathlib.Omega.{arith}
+use mathlib.Core.Path.{_≡_}
+use mathlib.Core.Bool.{true}
 use Prim.Native.Nat.{ℕ, _-_, _^_, _≤_, _<_}
-use lib.ListN.{length}
+use native.Mathlib.Omega.{arith}
 use borrow.Author.Tests.{not-false, not-true}
 use borrow.Author.Needs.{needs}
 use borrow.Fn.Kinds.{In}
 use borrow.Fn.PlainCycle.{Measures, is, falls, and}
 use Rattle.guard.specs.Closure.{Fact.within, State, add}
-use mathlib.Core.Bool.{true}
-use Rattle.slots.specs.Slots.{ReadsFit}
-use Rattle.search.specs.Nodes.{StateFit}
 use Rattle.classes.specs.Held.{state}
 use Rattle.passes.proofs.PassLaws.{steps-keep}
+use Rattle.slots.specs.Slots.{ReadsFit}
 use Rattle.splits.specs.Choice.{splitBy}
+use Rattle.search.specs.Nodes.{StateFit}
 use Rattle.search.proofs.Decisions.{bit-most, decision, fit-add, fit-steps, is-child, is-decided, is-falls, isnt-child, isnt-falls, term-small, variant-small}
 use Rattle.search.proofs.VisitLaws.{no-choice}
 use Rattle.search.proofs.Measure.{labelSum}
