@@ -22,7 +22,7 @@ use Rattle.search.specs.Nodes.{GuardsTables}
 use Rattle.search.proofs.TablesRead.{guard-accepted, guard-tables}
 use Rattle.refutations.specs.Record.{recordBytes}
 use Rattle.recordwriter.specs.declared.Written.{Written}
-use Rattle.recordwriter.specs.Writes.{Records, filled, writtenOf}
+use Rattle.recordwriter.specs.Records.{Records, filled, writtenOf}
 use Rattle.recordwriter.proofs.RecordLaws.{filled-none, filled-with, written-none, written-with}
 use Rattle.decide.specs.Decides.{Decides}
 use Rattle.decide.proofs.Decided.{questions-file}

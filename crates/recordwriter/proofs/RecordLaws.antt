@@ -20,7 +20,8 @@ use Rattle.search.proofs.RootLaws.{arrays-of, givenIn, root-begun}
 use Rattle.refutations.specs.Record.{recordBytes, recordOf}
 use Rattle.bytebuffer.specs.declared.End.{End}
 use Rattle.recordwriter.specs.declared.Written.{Written}
-use Rattle.recordwriter.specs.Writes.{IsRecord, Records, RootPuts, Writes, filled, writtenOf}
+use Rattle.nodewriter.specs.Writes.{Writes}
+use Rattle.recordwriter.specs.Records.{IsRecord, Records, RootPuts, filled, writtenOf}
 
 pub root-puts : (tables : Tables) (p : Problem) → p ≡ problemBy tables → (s : State) → s ≡ foldl add (first 96) (givenIn tables p) → {out : List ℕ} {r : End} {out′ : List ℕ}
     → Writes (p .shapes) (p .reads) (p .sorts) (p .full) (p .fieldless) (p .constants) (tables .rows .values) (tables .literals .kinds) (tables .literals .terms) (tables .literals .others) (tables .literals .many) s out 0 r out′

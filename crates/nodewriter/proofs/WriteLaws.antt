@@ -32,8 +32,8 @@ use Rattle.closings.proofs.ClosingLaws.{closing-named}
 use Rattle.bytebuffer.specs.declared.End.{End}
 use Rattle.bytebuffer.specs.Puts.{Puts}
 use Rattle.bytebuffer.proofs.PutLaws.{and-then, nothing, same-bytes, still-full}
-use Rattle.recordwriter.specs.Writes.{Writes}
-use Rattle.recordwriter.proofs.EntryBytes.{bytes-append, no-closing, some-closing, split-bytes}
+use Rattle.nodewriter.specs.Writes.{Writes}
+use Rattle.nodewriter.proofs.EntryBytes.{bytes-append, no-closing, some-closing, split-bytes}
 
 module _ (g : Guard) (ok : Accepted g) where
   node-of : {ls : List Literal} → NodeLiterals g ls → NodeOf g ls
