@@ -1,15 +1,15 @@
 -- Bytes that fit and bytes that don't, and bytes put behind those that were put. Assumes nothing.
 use mathlib.Core.Path.{_≡_, refl, ap, ap₂, sym, _∙_, subst}
-use mathlib.Core.Bool.{Bool, true, false, false≢true}
+use mathlib.Core.Bool.{true, false, false≢true}
 use mathlib.Core.List.{List, [], _++_, append-assoc, append-nil}
-use Prim.Native.Nat.{ℕ, zero, suc, _+_, _-_, _≤_, _<_}
+use Prim.Native.Nat.{ℕ, suc, _+_, _≤_, _<_}
 use native.Mathlib.Omega.{arith}
 use lib.Dec.{leb}
-use lib.ListN.{length, take, drop, replicate, drop-of-length-le, getD-replicate, length-append, length-replicate, length-set, set}
+use lib.ListN.{length, take, drop, replicate, drop-of-length-le, getD-replicate, length-append, length-replicate, set}
 use lib.Seq.{drop-at, drop-drop, length-take-le, length-sets, paste, paste-suc, sets, sets-eq, take-all, take-at}
 use borrow.Author.Tests.{le-leb, leb-false, leb-true, lt-leb}
 use Rattle.bytebuffer.specs.declared.End.{End}
-use Rattle.bytebuffer.specs.Puts.{Puts, putAt}
+use Rattle.bytebuffer.specs.Puts.{Puts}
 
 module _ {out : List ℕ} {at : ℕ} where
   -- bytes stored one by one

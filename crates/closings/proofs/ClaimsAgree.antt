@@ -6,7 +6,7 @@ use Prim.Native.Nat.{ℕ, zero, suc, _<_}
 use lib.Dec.{eqb}
 use lib.ListN.{length}
 use Rattle.laws.specs.All.{All}
-use Rattle.laws.specs.Lists.{any, concatMap, filter, member, union, when}
+use Rattle.laws.specs.Lists.{any, concatMap, member, union, when}
 use Rattle.laws.proofs.Lists.{all-mem, any-cong, concatMap-cong, filter-is, map-cong}
 use Rattle.guard.specs.Closure.{State, buildsAt, classOf, eqZ, sameClass}
 use Rattle.guard.specs.Guard.{Literal, Literal.equal, Literal.is, Literal.isnt, Literal.unequal}
@@ -15,7 +15,7 @@ use Rattle.guard.specs.Terms.{Build, Table, Term, termCount}
 use Rattle.guard.specs.Types.{isNumber}
 use Rattle.guard.proofs.Agreement.{Agrees, builds-agree}
 use Rattle.guard.proofs.ClosureBelow.{InRange, LiteralInRange, all-builds}
-use Rattle.refutations.specs.Record.{Entry.empty, Entry.inside, Entry.unequalLine, Entry.unlike, claim, lineAt, named}
+use Rattle.refutations.specs.Record.{Entry.empty, Entry.inside, Entry.unlike, claim, named}
 
 module _ (t : Table) (range : InRange t) (s s′ : State) (agree : Agrees s s′) where
   same-agrees : (i j : ℕ) → i < termCount → j < termCount → sameClass s i j ≡ sameClass s′ i j

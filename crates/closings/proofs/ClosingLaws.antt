@@ -1,8 +1,8 @@
 -- What code names at the closure of a node of a guard is the defined closing: of each kind, the lowest number that it finds is the lowest
 -- whose claim holds. Assumes nothing.
 use mathlib.Core.Path.{_≡_, refl, ap, ap₂, sym, _∙_}
-use mathlib.Core.Bool.{Bool, true, false, not, false≢true, _&&_, cond}
-use mathlib.Core.List.{List, List·Memᴰ, map}
+use mathlib.Core.Bool.{Bool, true, false, not, _&&_, cond}
+use mathlib.Core.List.{List, map}
 use mathlib.Core.Option.{Option, none, some}
 use Prim.Native.Nat.{ℕ, zero, suc, _-_, _^_, _≤_, _<_}
 use native.Mathlib.Nat.{pow-suc}

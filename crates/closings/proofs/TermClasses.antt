@@ -1,15 +1,15 @@
 -- The name of a term's class is a term of the table: the rules make only terms equal. Assumes nothing.
 use mathlib.Core.Path.{_≡_, refl, sym, subst}
 use mathlib.Core.List.{List, [], _∷_, List·Memᴰ}
-use Prim.Native.Nat.{ℕ, _<_}
+use Prim.Native.Nat.{ℕ}
 use native.Mathlib.Omega.{arith}
-use Rattle.laws.specs.All.{All, All.more, All.none}
+use Rattle.laws.specs.All.{All, All.more}
 use Rattle.laws.proofs.Lists.{all-getD}
 use Rattle.guard.specs.Closure.{classOf, closureOf}
 use Rattle.guard.specs.Guard.{Guard, Literal, Literal.equal, Row.field}
 use Rattle.guard.specs.Limits.{Limits, Supported}
 use Rattle.guard.specs.Rules.{AllSame, BuiltAt, BuiltAt.read, BuiltAt.row, ObeysLiterals, ObeysRules, Relation}
-use Rattle.guard.specs.Terms.{Build, Read, Table, Term, tableOf, termCount}
+use Rattle.guard.specs.Terms.{Build, Read, Table, Term, tableOf}
 use Rattle.guard.specs.WellFormed.{LiteralFits, WellFormed}
 use Rattle.guard.proofs.Agreement.{named-closure}
 use Rattle.guard.proofs.ClosureBelow.{InRange}

@@ -1,6 +1,6 @@
 -- Unlike constants: the lowest class that holds two is the lowest term whose class does, since a class is named by its lowest member
 -- and its name is a term of the table. Assumes nothing.
-use mathlib.Core.Path.{_≡_, refl, ap, sym, _∙_, subst}
+use mathlib.Core.Path.{_≡_, ap, sym, _∙_, subst}
 use mathlib.Core.Bool.{Bool, true, false, not, false≢true, _&&_}
 use mathlib.Core.List.{List, List·Memᴰ}
 use Prim.Native.Nat.{ℕ, _≤_, _<_}

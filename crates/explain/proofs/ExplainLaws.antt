@@ -1,13 +1,12 @@
 -- From the desk's answer and the record to what the second call gives. Assumes nothing.
-use mathlib.Core.Path.{_≡_, refl, ap, ap₂, sym, _∙_}
+use mathlib.Core.Path.{_≡_, refl, ap, sym, _∙_}
 use mathlib.Core.Bool.{Bool, true, false, cond, false≢true}
-use mathlib.Core.List.{List, [], _++_}
+use mathlib.Core.List.{List, []}
 use Prim.Native.Nat.{ℕ, _-_}
 use native.Mathlib.Omega.{arith}
 use lib.Dec.{leb}
 use lib.IntN.{ℤ}
 use lib.ListN.{length, replicate}
-use Rattle.laws.proofs.Bools.{by-test}
 use Rattle.guard.specs.Answer.{Outcome, Outcome.refusal, Outcome.sat, Outcome.spent, Outcome.unsat, afterQuestions, outcome, outcomeOf, questions, withBudget}
 use Rattle.guard.specs.File.{file}
 use Rattle.guard.specs.Guard.{Guard}
@@ -23,7 +22,8 @@ use Rattle.search.specs.Nodes.{GuardsTables}
 use Rattle.search.proofs.TablesRead.{guard-accepted, guard-tables}
 use Rattle.refutations.specs.Record.{recordBytes}
 use Rattle.recordwriter.specs.declared.Written.{Written}
-use Rattle.recordwriter.specs.Writes.{Records, filled, writtenOf}
+use Rattle.recordwriter.specs.Records.{Records, filled, writtenOf}
+use Rattle.recordwriter.proofs.RecordLaws.{filled-none, filled-with, written-none, written-with}
 use Rattle.decide.specs.Decides.{Decides}
 use Rattle.decide.proofs.Decided.{questions-file}
 use Rattle.explain.specs.Explains.{Explains, RecordsFile, Taken, askRecord, explained, explainedBy, isUnsat, padded, recordAfter, recordBy, recorded}
@@ -149,8 +149,8 @@ module _ {bytes : List ℕ} {budget : ℕ} {rows places : List ℤ} (lent : List
       fits b q = by-fits (leb (length own) (length lent)) refl ∙ q
         where
           by-fits : (c : Bool) → leb (length own) (length lent) ≡ c → leb (length own) (length lent) ≡ w .fits
-          by-fits true e = e ∙ sym (ap (λ (x : Written). x .fits) (is-written ∙ ap (λ (c : Bool). cond c (record { fits = true; many = length own }) (record { fits = false; many = 0 })) e))
-          by-fits false e = e ∙ sym (ap (λ (x : Written). x .fits) (is-written ∙ ap (λ (c : Bool). cond c (record { fits = true; many = length own }) (record { fits = false; many = 0 })) e))
+          by-fits true e = e ∙ sym (ap (λ (x : Written). x .fits) (is-written ∙ written-with own (length lent) e))
+          by-fits false e = e ∙ sym (ap (λ (x : Written). x .fits) (is-written ∙ written-none own (length lent) e))
 
       pub unsat-recorded : w .fits ≡ true → Explains base bytes budget rows places lent (record { answer = answer; bytes = w .many }) rows′ places′ lent′
       unfolding explained recorded
@@ -159,8 +159,8 @@ module _ {bytes : List ℕ} {budget : ℕ} {rows places : List ℤ} (lent : List
           let (o, x) = asked budget (length lent) asks (outcomeOf answer) closed true room in
           record {
             says = sym o;
-            many = ap (λ (y : Written). y .many) (is-written ∙ ap (λ (c : Bool). cond c (record { fits = true; many = length own }) (record { fits = false; many = 0 })) room) ∙ sym (ap length x);
-            written = is-left ∙ ap (λ (c : Bool). cond c (padded own (length lent)) (replicate (length lent) 0)) room ∙ ap (λ (bs : List ℕ). padded bs (length lent)) (sym x);
+            many = ap (λ (y : Written). y .many) (is-written ∙ written-with own (length lent) room) ∙ sym (ap length x);
+            written = is-left ∙ filled-with own (length lent) room ∙ ap (λ (bs : List ℕ). padded bs (length lent)) (sym x);
             longRows = d .longRows;
             longPlaces = d .longPlaces;
             cleared = d .cleared;
@@ -176,7 +176,7 @@ module _ {bytes : List ℕ} {budget : ℕ} {rows places : List ℤ} (lent : List
           record {
             says = sym o;
             many = sym (ap length x);
-            written = is-left ∙ ap (λ (c : Bool). cond c (padded own (length lent)) (replicate (length lent) 0)) room ∙ no-bytes (length lent) ∙ ap (λ (bs : List ℕ). padded bs (length lent)) (sym x);
+            written = is-left ∙ filled-none own (length lent) room ∙ no-bytes (length lent) ∙ ap (λ (bs : List ℕ). padded bs (length lent)) (sym x);
             longRows = d .longRows;
             longPlaces = d .longPlaces;
             cleared = λ f. d .cleared (λ n e. differ n (closed .nodes) (sym e ∙ closed .answer));

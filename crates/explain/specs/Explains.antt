@@ -19,7 +19,7 @@ use Rattle.guard.specs.declared.Answer.{Answer}
 use Rattle.guard.specs.declared.Answer.the-variants.{Refused, Sat, Unsat, Spent}
 use Rattle.refutations.specs.Record.{recordBytes}
 use Rattle.recordwriter.specs.declared.Written.{Written}
-use Rattle.recordwriter.specs.Writes.{filled, writtenOf}
+use Rattle.recordwriter.specs.Records.{filled, writtenOf}
 use Rattle.explain.specs.declared.Explained.{Explained}
 
 -- ---- the answer

@@ -1,3 +1,1 @@
-pub mod EntryBytes
-pub mod WriteLaws
 pub mod RecordLaws

@@ -1,13 +1,12 @@
 -- The whole record: the root begins with what is given, and the buffer holds the record and zeros, or zeros alone. Assumes nothing.
-use mathlib.Core.Path.{_≡_, refl, ap, ap₂, sym, _∙_, subst}
+use mathlib.Core.Path.{_≡_, refl, ap, ap₂, sym, _∙_}
 use mathlib.Core.Bool.{Bool, true, false, cond}
-use mathlib.Core.List.{List, [], _∷_, _++_, foldl}
-use Prim.Native.Nat.{ℕ, zero, suc, _+_, _-_, _≤_}
+use mathlib.Core.List.{List, [], _++_, foldl}
+use Prim.Native.Nat.{ℕ, zero, suc, _+_, _-_}
 use native.Mathlib.Omega.{arith}
 use lib.Dec.{leb}
-use lib.ListN.{length, take, drop, replicate, length-append, length-replicate}
+use lib.ListN.{length, take, drop, replicate, length-replicate}
 use lib.Seq.{take-at}
-use borrow.Author.Tests.{leb-true}
 use Rattle.laws.proofs.Bools.{by-test}
 use Rattle.guard.specs.Closure.{State, add}
 use Rattle.guard.specs.Guard.{Guard}
@@ -20,9 +19,9 @@ use Rattle.search.specs.Nodes.{Accepted, GuardsTables}
 use Rattle.search.proofs.RootLaws.{arrays-of, givenIn, root-begun}
 use Rattle.refutations.specs.Record.{recordBytes, recordOf}
 use Rattle.bytebuffer.specs.declared.End.{End}
-use Rattle.bytebuffer.specs.Puts.{Puts}
 use Rattle.recordwriter.specs.declared.Written.{Written}
-use Rattle.recordwriter.specs.Writes.{IsRecord, Records, RootPuts, Writes, filled, writtenOf}
+use Rattle.nodewriter.specs.Writes.{Writes}
+use Rattle.recordwriter.specs.Records.{IsRecord, Records, RootPuts, filled, writtenOf}
 
 pub root-puts : (tables : Tables) (p : Problem) → p ≡ problemBy tables → (s : State) → s ≡ foldl add (first 96) (givenIn tables p) → {out : List ℕ} {r : End} {out′ : List ℕ}
     → Writes (p .shapes) (p .reads) (p .sorts) (p .full) (p .fieldless) (p .constants) (tables .rows .values) (tables .literals .kinds) (tables .literals .terms) (tables .literals .others) (tables .literals .many) s out 0 r out′
@@ -37,17 +36,18 @@ zeros-left zero n = let whole : n ≡ n - 0 = omega arith in ap (λ (m : ℕ). r
 zeros-left (suc k) zero = let none : 0 ≡ 0 - suc k = omega arith in ap (λ (m : ℕ). replicate m 0) none
 zeros-left (suc k) (suc n) = let less : n - k ≡ suc n - suc k = omega arith in zeros-left k n ∙ ap (λ (m : ℕ). replicate m 0) less
 
+-- by whether the bytes fit
 module _ (bytes : List ℕ) (n : ℕ) where
-  filled-with : leb (length bytes) n ≡ true → filled bytes n ≡ bytes ++ replicate (n - length bytes) 0
+  pub filled-with : leb (length bytes) n ≡ true → filled bytes n ≡ bytes ++ replicate (n - length bytes) 0
   filled-with q = ap (λ (b : Bool). cond b (bytes ++ replicate (n - length bytes) 0) (replicate n 0)) q
 
-  written-with : leb (length bytes) n ≡ true → writtenOf bytes n ≡ record { fits = true; many = length bytes }
+  pub written-with : leb (length bytes) n ≡ true → writtenOf bytes n ≡ record { fits = true; many = length bytes }
   written-with q = ap (λ (b : Bool). cond b (record { fits = true; many = length bytes }) (record { fits = false; many = 0 })) q
 
-  filled-none : leb (length bytes) n ≡ false → filled bytes n ≡ replicate n 0
+  pub filled-none : leb (length bytes) n ≡ false → filled bytes n ≡ replicate n 0
   filled-none q = ap (λ (b : Bool). cond b (bytes ++ replicate (n - length bytes) 0) (replicate n 0)) q
 
-  written-none : leb (length bytes) n ≡ false → writtenOf bytes n ≡ record { fits = false; many = 0 }
+  pub written-none : leb (length bytes) n ≡ false → writtenOf bytes n ≡ record { fits = false; many = 0 }
   written-none q = ap (λ (b : Bool). cond b (record { fits = true; many = length bytes }) (record { fits = false; many = 0 })) q
 
 module _ {tables : Tables} (out : List ℕ) {blank : List ℕ} (clear : blank ≡ replicate (length out) 0) {r : End} {out′ : List ℕ} (w : RootPuts tables blank r out′) where

@@ -1,10 +1,10 @@
 -- `clear`: the bytes before i are 0, the others as they came. Assumes nothing.
-use mathlib.Core.Path.{_≡_, ap, sym, _∙_}
+use mathlib.Core.Path.{_≡_, ap, _∙_}
 use mathlib.Core.List.{List}
-use Prim.Native.Nat.{ℕ, suc, _+_, _-_, _≤_}
+use Prim.Native.Nat.{ℕ, _-_, _≤_}
 use native.Mathlib.Omega.{arith}
-use lib.ListN.{length, set, replicate, getD-replicate, length-replicate, length-set}
-use lib.Seq.{paste, paste-suc, paste-zero}
+use lib.ListN.{length, set, replicate, length-set}
+use lib.Seq.{paste, paste-zero}
 use Rattle.bytebuffer.proofs.PutLaws.{all-zero, zero-next}
 use Rattle.bytebuffer.proofs.clear.Statement.{statement}
 use Rattle.bytebuffer.proofs.clear.Tie as tie

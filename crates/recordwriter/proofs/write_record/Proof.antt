@@ -1,5 +1,4 @@
 -- `write_record` meets its contract. Assumes nothing.
-use mathlib.Core.Path.{_∙_}
 use borrow.Author.Needs.{needs}
 use borrow.Author.Tests.{not-false, not-true}
 use Rattle.recordwriter.proofs.RecordLaws.{record-fits, record-outgrows}

@@ -1,27 +1,26 @@
 -- `write_node` meets its contract: the number that falls is the total of the label sizes. Assumes nothing.
-use mathlib.Core.Path.{_≡_, ap}
-use native.Mathlib.Omega.{arith}
+use mathlib.Core.Path.{_≡_}
+use mathlib.Core.Bool.{true}
 use Prim.Native.Nat.{ℕ, _-_, _^_, _≤_, _<_}
-use lib.ListN.{length}
+use native.Mathlib.Omega.{arith}
 use borrow.Author.Tests.{not-false, not-true}
 use borrow.Author.Needs.{needs}
 use borrow.Fn.Kinds.{In}
 use borrow.Fn.PlainCycle.{Measures, is, falls, and}
 use Rattle.guard.specs.Closure.{Fact.within, State, add}
-use mathlib.Core.Bool.{true}
-use Rattle.slots.specs.Slots.{ReadsFit}
-use Rattle.search.specs.Nodes.{StateFit}
 use Rattle.classes.specs.Held.{state}
 use Rattle.passes.proofs.PassLaws.{steps-keep}
+use Rattle.slots.specs.Slots.{ReadsFit}
 use Rattle.splits.specs.Choice.{splitBy}
+use Rattle.search.specs.Nodes.{StateFit}
 use Rattle.search.proofs.Decisions.{bit-most, decision, fit-add, fit-steps, is-child, is-decided, is-falls, isnt-child, isnt-falls, term-small, variant-small}
 use Rattle.search.proofs.VisitLaws.{no-choice}
 use Rattle.search.proofs.Measure.{labelSum}
 use Rattle.bytebuffer.proofs.PutLaws.{ends-within}
-use Rattle.recordwriter.proofs.WriteLaws.{Looked, both-put, closed-node, entry-full, first-full, open-node}
-use Rattle.recordwriter.proofs.write_node.Reads as write-node
-use Rattle.recordwriter.proofs.write_node.Kinds as write-node-kinds
-use Rattle.recordwriter.proofs.+write_node.Lts-write_node as write-node-lts
+use Rattle.nodewriter.proofs.WriteLaws.{Looked, both-put, closed-node, entry-full, first-full, open-node}
+use Rattle.nodewriter.proofs.write_node.Reads as write-node
+use Rattle.nodewriter.proofs.write_node.Kinds as write-node-kinds
+use Rattle.nodewriter.proofs.+write_node.Lts-write_node as write-node-lts
 use Rattle.bytebuffer.proofs.put_three.Reads as put-three-reads
 use Rattle.bytebuffer.proofs.put_two.Reads as put-two-reads
 use Rattle.classes.proofs.restrict.Reads as restrict-reads
@@ -29,8 +28,8 @@ use Rattle.closings.proofs.closing_of.Reads as closing-of-reads
 use Rattle.labels.proofs.only.Reads as only-reads
 use Rattle.saturation.proofs.saturate_fully.Reads as saturate-fully-reads
 use Rattle.splits.proofs.split.Reads as split-reads
-use Rattle.recordwriter.proofs.+write_node.{statement}
-use Rattle.recordwriter.proofs.+write_node.Tie.{close}
+use Rattle.nodewriter.proofs.+write_node.{statement}
+use Rattle.nodewriter.proofs.+write_node.Tie.{close}
 
 abbrev μ-write-node : Measures 14 write-node-kinds.ps ℕ
 μ-write-node κs a = labelSum (state (a .0 .now) (a .1 .0 .now))

@@ -1,32 +1,21 @@
--- What is written: the bytes of a node's entries, from a place on; and the whole record of a guard. Assumes nothing: definitions.
+-- What is written of a guard: its whole record. Assumes nothing: definitions.
 -- Quoted sentences are document 02's, of request #101.
 use mathlib.Core.Path.{_≡_}
 use mathlib.Core.Bool.{true, false, cond}
 use mathlib.Core.List.{List, [], _++_}
 use Prim.Native.Nat.{ℕ, _-_}
 use lib.Dec.{leb}
-use lib.IntN.{ℤ}
 use lib.ListN.{length, replicate}
-use Rattle.laws.specs.Lists.{concatMap}
-use Rattle.guard.specs.Closure.{State}
-use Rattle.guard.specs.Guard.{Guard, Literal}
-use Rattle.guard.specs.Terms.{tableOf}
+use Rattle.guard.specs.Guard.{Guard}
 use Rattle.reader.specs.declared.Tables.{Tables}
 use Rattle.reader.specs.Reader.{guardTables}
-use Rattle.search.specs.Nodes.{Accepted, ArraysOf, Begun}
-use Rattle.refutations.specs.Record.{bytesOf, entries, recordBytes}
+use Rattle.search.specs.Nodes.{Accepted}
+use Rattle.refutations.specs.Record.{recordBytes}
 use Rattle.bytebuffer.specs.declared.End.{End}
 use Rattle.bytebuffer.specs.Puts.{Puts}
 use Rattle.recordwriter.specs.declared.Written.{Written}
 
--- From a node that has begun: the bytes of its entries are put, as far as they fit.
-pub record Writes (shapes reads sorts full fieldless constants : List ℕ) (values : List ℤ) (kinds terms others : List ℕ) (many : ℕ) (s : State) (out : List ℕ) (at : ℕ) (r : End) (out′ : List ℕ) : Type 0 where
-  pub puts : (g : Guard) (ls : List Literal) → Accepted g → ArraysOf g shapes reads sorts full fieldless constants values kinds terms others many → Begun g ls s
-      → Puts (concatMap bytesOf (entries (tableOf g) (g .literals) ls)) out at r out′
-
--- ---- the whole record
-
--- of a guard that a reader took, from the start of the buffer on
+-- the record of a guard that a reader took, from the start of the buffer on
 pub record RootPuts (tables : Tables) (out : List ℕ) (r : End) (out′ : List ℕ) : Type 0 where
   pub puts : (g : Guard) → Accepted g → tables ≡ guardTables g → Puts (recordBytes g) out 0 r out′
 

@@ -24,7 +24,7 @@ use Rattle.splits.specs.declared.Choice.{Choice}
 use Rattle.splits.specs.Choice.{choiceOf, splitBy}
 use Rattle.search.specs.Nodes.{Accepted, ArraysOf, Begun, NodeLiterals, NodeLiterals.atIs, NodeLiterals.atIsnt, NodeLiterals.atRoot, StateFit}
 use Rattle.search.proofs.ClosedState.{agreed, is-begun, isnt-begun, literals-in, splits}
-use Rattle.refutations.specs.Record.{Entry, Entry.splitOn, bytesOf, claim, closing, closings, entries, ofNode}
+use Rattle.refutations.specs.Record.{Entry, bytesOf, claim, closing, closings, entries, ofNode}
 use Rattle.refutations.proofs.Depth.{entries-step}
 use Rattle.closings.specs.declared.Closing.{Closing}
 use Rattle.closings.specs.Closing.{Names, closingOf}
@@ -32,8 +32,8 @@ use Rattle.closings.proofs.ClosingLaws.{closing-named}
 use Rattle.bytebuffer.specs.declared.End.{End}
 use Rattle.bytebuffer.specs.Puts.{Puts}
 use Rattle.bytebuffer.proofs.PutLaws.{and-then, nothing, same-bytes, still-full}
-use Rattle.recordwriter.specs.Writes.{Writes}
-use Rattle.recordwriter.proofs.EntryBytes.{bytes-append, no-closing, some-closing, split-bytes}
+use Rattle.nodewriter.specs.Writes.{Writes}
+use Rattle.nodewriter.proofs.EntryBytes.{bytes-append, no-closing, some-closing, split-bytes}
 
 module _ (g : Guard) (ok : Accepted g) where
   node-of : {ls : List Literal} → NodeLiterals g ls → NodeOf g ls
