@@ -1,4 +1,3 @@
 pub mod ClaimTests
-pub mod ClaimsAgree
 pub mod UnlikeLaws
 pub mod ClaimsSame

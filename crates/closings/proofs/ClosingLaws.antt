@@ -48,7 +48,7 @@ use Rattle.refutations.proofs.ClaimLaws.{any-named, of-term, term-of}
 use Rattle.refutations.proofs.LowestClosing.{closing-lowest, lowestOr}
 use Rattle.closings.specs.declared.Closing.{Closing}
 use Rattle.closings.specs.Closing.{Names, Names.ofEmpty, Names.ofInside, Names.ofLine, Names.ofNone, Names.ofUnlike, closingOf}
-use Rattle.closings.proofs.ClaimsAgree.{broken-agrees, empty-agrees, inside-agrees, unlike-agrees}
+use Rattle.refutations.proofs.ClaimsAgree.{claim-agrees}
 use Rattle.closings.proofs.UnlikeLaws.{unlike-found, unlike-nowhere}
 
 -- ---- lowest numbers
@@ -121,6 +121,9 @@ module _ (limits : Limits) (sup : Supported limits) (g : Guard) (ok : WellFormed
   slots : SortSlots (tableOf g) (sortsOf g) (fieldlessOf g)
   slots = sort-slots limits sup g ok total
 
+  same-claim : (e : Entry) → claim t lines s e ≡ claim t lines S e
+  same-claim = claim-agrees t range s S agree lines (literals-in-range limits sup g ok)
+
   -- ---- empty labels
 
   no-variants : (n : ℕ) → eqb n 0 ≡ eqb (2 ^ n - 1) 0
@@ -142,7 +145,7 @@ module _ (limits : Limits) (sup : Supported limits) (g : Guard) (ok : WellFormed
 
   lowest-empty : least (λ i. claim t lines S (empty i)) termCount ≡ lowest (emptyAt (sortsOf g) (fullOf g) s) 78
   unfolding lowest
-  lowest-empty = least-same _ _ 78 (λ k h. sym (empty-agrees t range s S agree lines k) ∙ empty-at k h)
+  lowest-empty = least-same _ _ 78 (λ k h. sym (same-claim (empty k)) ∙ empty-at k h)
 
   -- ---- lines
 
@@ -151,18 +154,18 @@ module _ (limits : Limits) (sup : Supported limits) (g : Guard) (ok : WellFormed
   unfolding lowest
   lowest-broken =
       least-same _ _ (length lines)
-      (λ j h. sym (broken-agrees t range s S agree (lineAt lines j) (literals-in-range limits sup g ok (lineAt lines j) (all-getD (all-of lines (λ l m. m)) j (equal 0 0) h))) ∙ broken-at lines s j h)
+      (λ j h. sym (same-claim (unequalLine j)) ∙ broken-at lines s j h)
       ∙ ap (least (brokenAt (literalTable lines .kinds) (literalTable lines .terms) (literalTable lines .others) (s .classes))) (sym (many-is lines))
 
   -- ---- classes
 
   unlikes-agree : least (λ i. claim t lines S (unlike i)) termCount ≡ least (λ i. claim t lines s (unlike i)) termCount
-  unlikes-agree = least-same _ _ termCount (λ k h. sym (unlike-agrees t range s S agree lines k))
+  unlikes-agree = least-same _ _ termCount (λ k h. sym (same-claim (unlike k)))
 
   lowest-inside : (r : ℕ) → LowestOf (Inside (shapesOf g) (sortsOf g) s) 78 r → least (λ i. claim t lines S (inside i)) termCount ≡ r
   unfolding lowest insideTerm
   lowest-inside r w =
-      least-same _ _ 78 (λ k h. sym (inside-agrees t range s S agree lines k) ∙ any-named t (insideItself s (buildsAt t s)) k)
+      least-same _ _ 78 (λ k h. sym (same-claim (inside k)) ∙ any-named t (insideItself s (buildsAt t s)) k)
       ∙ sym (named limits sup g ok total s small held (λ i h. omega (arith, agree .class i h, named-closure t ls .low i)) r w)
 
   -- ---- the closing

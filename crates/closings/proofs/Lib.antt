@@ -1,4 +1,3 @@
 pub mod TermClasses
-pub mod ClaimsAgree
 pub mod UnlikeLaws
 pub mod ClosingLaws

@@ -30,7 +30,7 @@ use Rattle.refutations.specs.Checker.{below, checkFrom, checkNode, entry}
 use Rattle.refutations.specs.Record.{Entry, Entry.splitOn, claim}
 use Rattle.refutations.proofs.Depth.{check-step}
 use Rattle.claims.specs.Claims.{ClosedBy, entryAt, splitsBy}
-use Rattle.claims.proofs.ClaimsAgree.{claim-agrees}
+use Rattle.refutations.proofs.ClaimsAgree.{claim-agrees}
 use Rattle.claims.proofs.ClaimsSame.{closes-same, splits-same}
 use Rattle.recordchecker.specs.declared.EntryRead.{EntryRead}
 use Rattle.recordchecker.specs.declared.NodeRead.{NodeRead}

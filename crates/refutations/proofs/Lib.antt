@@ -4,4 +4,5 @@ pub mod EntryBack
 pub mod RecordAccepted
 pub mod Depth
 pub mod LowestClosing
+pub mod ClaimsAgree
 pub mod Theorems
