@@ -1,10 +1,10 @@
 -- The tables of a file have its types and its terms, so rows and terms are shown as the file's. Assumes nothing.
 use mathlib.Core.Path.{_≡_, refl, ap, ap₂, sym, _∙_, subst, fun-ext}
-use mathlib.Core.List.{List, [], _++_}
+use mathlib.Core.List.{List, _++_}
 use Prim.Native.Nat.{ℕ, _≤_}
 use native.Mathlib.Omega.{arith}
 use lib.IntN.{ℤ}
-use lib.ListN.{length, List·getD-eq-default}
+use lib.ListN.{length}
 use Rattle.laws.specs.Lists.{concatMap, from}
 use Rattle.guard.specs.File.{file}
 use Rattle.guard.specs.Guard.{Guard}

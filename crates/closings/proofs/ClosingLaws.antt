@@ -13,7 +13,6 @@ use lib.Pow.{pow-pos}
 use borrow.Author.Tests.{eq-eqb, le-ltb, lt-ltb, ne-eqb}
 use Rattle.laws.specs.Lists.{any}
 use Rattle.laws.proofs.Bools.{by-test}
-use Rattle.laws.proofs.Lists.{all-getD, all-of}
 use Rattle.laws.proofs.Positions.{least}
 use Rattle.guard.specs.Closure.{State, buildsAt, classOf, closureOf, labelOf}
 use Rattle.guard.specs.Guard.{Guard, Literal, Literal.equal, Literal.is, Literal.isnt, Literal.unequal}

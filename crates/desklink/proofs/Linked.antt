@@ -1,7 +1,7 @@
 -- The two ends of the call: too short an answer buffer, and an answer. Assumes nothing.
 use mathlib.Core.Path.{_≡_, refl}
 use mathlib.Core.List.{List, _++_}
-use Prim.Native.Nat.{ℕ, _≤_, _<_}
+use Prim.Native.Nat.{ℕ, _<_}
 use native.Mathlib.Omega.{arith}
 use lib.IntN.{ℤ}
 use lib.ListN.{length, drop}
@@ -10,7 +10,7 @@ use Rattle.guard.specs.declared.Answer.{Answer}
 use Rattle.decide.specs.Decides.{Decides}
 use Rattle.explain.specs.Explains.{Explains}
 use Rattle.explain.specs.declared.Explained.{Explained}
-use Rattle.desklink.specs.Links.{Answers, ExplainedAnswers, Links, LinksExplained, answerNumbers}
+use Rattle.desklink.specs.Links.{Links, LinksExplained, answerNumbers}
 
 pub too-short : (bytes : List ℕ) (budget : ℕ) (rows places : List ℤ) (numbers : List ℕ) → length numbers < 3 → Links base bytes budget rows places numbers 1 rows places numbers
 too-short bytes budget rows places numbers h = record { short = λ _. (refl, (refl, (refl, refl))); enough = λ l. absurd (omega (arith, h, l)) }

@@ -10,7 +10,6 @@ use Rattle.guard.specs.declared.Answer.{Answer}
 use Rattle.guard.specs.declared.Answer.the-variants.{Refused, Sat, Unsat, Spent}
 use Rattle.decide.specs.Decides.{Decides}
 use Rattle.explain.specs.Explains.{Explains}
-use Rattle.explain.specs.declared.Explained.{Explained}
 
 -- the numbers of an answer: its verdict (0 REFUSED, 1 SAT, 2 UNSAT, 3 SPENT); the question that got a no, the node count
 -- or the budget; and how many rows are shown, none but after SAT

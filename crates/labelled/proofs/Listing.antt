@@ -3,7 +3,7 @@ use mathlib.Core.Path.{_≡_, refl, ap, sym, _∙_}
 use mathlib.Core.Bool.{Bool, true, false, not, _||_, false≢true}
 use mathlib.Core.List.{List}
 use mathlib.Core.Logic.{_⊎_, inl, inr}
-use Prim.Native.Nat.{ℕ, _+_, _≤_, _<_}
+use Prim.Native.Nat.{ℕ, _+_, _<_}
 use native.Mathlib.Omega.{arith}
 use lib.Dec.{eqb, ltb}
 use lib.ListN.{List·getD-eq-default, getD, getD-replicate, length, length-replicate, length-set, replicate, set}
@@ -11,7 +11,7 @@ use lib.Seq.{getD-set-other, getD-set-same}
 use borrow.Author.Tests.{eq-eqb, eqb-false, eqb-true, ltb-false, ltb-true, ne-eqb}
 use Rattle.laws.proofs.Bools.{by-test, or-left}
 use Rattle.slots.specs.Slots.{sortAt}
-use Rattle.labelled.specs.Covers.{Covers, Lists, hasLabel, hasMask}
+use Rattle.labelled.specs.Covers.{Lists, hasLabel, hasMask}
 
 zeros : (n i : ℕ) → getD {A = ℕ} (replicate n 0) i 0 ≡ 0
 zeros n i = by-test (ltb i n) (λ b. getD-replicate {A = ℕ} n i 0 0 (ltb-true i n b)) (λ b. List·getD-eq-default (replicate {A = ℕ} n 0) 0 (omega (arith, ltb-false i n b, length-replicate {A = ℕ} n 0)))

@@ -1,6 +1,5 @@
 // The search over decisions, depth first, with a budget of nodes. `specs/` says what it gives.
 ghost use mathlib.Core.Path.{_≡_};
-ghost use Prim.Native.Nat.{_<_};
 ghost use Rattle.classes.specs.Held.{Held, state};
 ghost use Rattle.search.specs.Outcome.{isClosedOutcome, leftOf};
 ghost use Rattle.search.specs.Nodes.{ArraysFit, Searches, StateFit};

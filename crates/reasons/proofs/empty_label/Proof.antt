@@ -1,6 +1,6 @@
 -- `empty_label` meets its contract. Invariant: nothing is found in the list so far. Assumes nothing.
 use mathlib.Core.Path.{sym, _∙_}
-use Prim.Native.Nat.{_-_, _≤_}
+use Prim.Native.Nat.{_-_}
 use native.Mathlib.Omega.{arith}
 use Rattle.classes.specs.Held.{state}
 use Rattle.labelled.proofs.Covering.{NoneListed, listed-here, listed-nowhere, none-further, none-listed}
