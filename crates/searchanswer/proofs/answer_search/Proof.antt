@@ -8,8 +8,8 @@ use Rattle.searchanswer.proofs.answer_search.Tie as tie
 problem-of-requires : tie.Need-problem-of-requires
 problem-of-requires c κs = search needs
 
-search-requires : tie.Need-search-requires
-search-requires c κs = search needs
+search-guard-requires : tie.Need-search-guard-requires
+search-guard-requires c κs = search needs
 
 enum-known-o : tie.Need-enum-known-o
 enum-known-o c = search needs
@@ -17,13 +17,13 @@ enum-known-o c = search needs
 sub-answer-open : tie.Need-sub-answer-open
 sub-answer-open c =
     let start = c .before .before .before .before .before .before .before .before .before in
-    let found = c .before .before .before .before .before .search in
+    let found = c .before .before .before .before .before .search-guard in
     open-within (start .args .tables) (start .args .budget) (found .result) (found .last .1 .1 .1 .0) (found .last .1 .1 .1 .1 .0) (found .ensures .0) (start .pre .0) (c .before .before .before .o .given .0 .0) (c .before .before .before .o .given .1)
 
 answer-open-requires : tie.Need-answer-open-requires
 answer-open-requires c κs =
     let start = c .before .before .before .before .before .before .before .before .before .before .before in
-    let found = c .before .before .before .before .before .before .before .search in
+    let found = c .before .before .before .before .before .before .before .search-guard in
     let made = c .before .before .before .before .before .before .before .before .before .before .problem-of in
     (open-tables (start .args .tables) (start .args .budget) (found .result) (found .last .1 .1 .1 .0) (found .last .1 .1 .1 .1 .0) (found .ensures .0) (start .pre .0) (c .before .before .before .before .before .o .given .0 .0) (c .before .before .before .before .before .o .given .1), (made .ensures, (found .ensures .1 .1, (start .pre .1 .0, start .pre .1 .1))))
 
@@ -33,7 +33,7 @@ enum-known-o-2 c = search needs
 sub-nodes : tie.Need-sub-nodes
 sub-nodes c =
     let start = c .before .before .before .before .before .before .before in
-    let found = c .before .before .before .search in
+    let found = c .before .before .before .search-guard in
     closed-within (start .args .tables) (start .args .budget) (found .result) (found .last .1 .1 .1 .0) (found .last .1 .1 .1 .1 .0) (found .ensures .0) (start .pre .0) (c .before .o2 .given .0 .0) (c .before .o2 .given .1)
 
 clear-both-requires : tie.Need-clear-both-requires
@@ -54,7 +54,7 @@ same-length-2 c = search needs
 returns : tie.Need-returns
 returns c =
     let start = c .before .before .before .before .before .before .before .before .before .before .before .before .before .before in
-    let found = c .before .before .before .before .before .before .before .before .before .before .search in
+    let found = c .before .before .before .before .before .before .before .before .before .before .search-guard in
     answered-open (start .args .tables) (start .args .budget) (found .result) (found .last .1 .1 .1 .0) (found .last .1 .1 .1 .1 .0) (found .ensures .0) (start .args .rows .now) (start .args .places .now) (c .before .before .answer-open .last .1 .1 .1 .1 .1 .0) (c .before .before .answer-open .last .1 .1 .1 .1 .1 .1 .0)
     (c .before .before .before .before .before .before .before .before .o .given .0 .0) (c .before .before .before .before .before .before .before .before .o .given .1) (c .before .before .answer-open .result) (c .before .before .answer-open .ensures)
 
@@ -67,7 +67,7 @@ same-length-4 c = search needs
 returns-2 : tie.Need-returns-2
 returns-2 c =
     let start = c .before .before .before .before .before .before .before .before .before .before .before .before in
-    let found = c .before .before .before .before .before .before .before .before .search in
+    let found = c .before .before .before .before .before .before .before .before .search-guard in
     answered-closed (start .args .tables) (start .args .budget) (found .result) (found .last .1 .1 .1 .0) (found .last .1 .1 .1 .1 .0) (found .ensures .0) (start .args .rows .now) (start .args .places .now) (c .before .before .clear-both .last .0) (c .before .before .clear-both .last .1 .0)
     (c .before .before .clear-both .ensures .0) (c .before .before .clear-both .ensures .1) (c .before .before .before .before .before .before .o2 .given .0 .0) (c .before .before .before .before .before .before .o2 .given .1)
 
@@ -80,7 +80,7 @@ same-length-6 c = search needs
 returns-3 : tie.Need-returns-3
 returns-3 c =
     let start = c .before .before .before .before .before .before .before .before .before .before .before in
-    let found = c .before .before .before .before .before .before .before .search in
+    let found = c .before .before .before .before .before .before .before .search-guard in
     answered-spent (start .args .tables) (start .args .budget) (found .result) (found .last .1 .1 .1 .0) (found .last .1 .1 .1 .1 .0) (found .ensures .0) (start .args .rows .now) (start .args .places .now) (c .before .before .clear-both2 .last .0) (c .before .before .clear-both2 .last .1 .0)
     (c .before .before .clear-both2 .ensures .0) (c .before .before .clear-both2 .ensures .1) (c .before .before .before .before .before .enum-told .given .1)
 
@@ -89,7 +89,7 @@ answer-search-spec =
     tie.close
     (tie.spec
     problem-of-requires
-    search-requires
+    search-guard-requires
     enum-known-o
     sub-answer-open
     answer-open-requires

@@ -20,8 +20,8 @@ returns c = search needs
 problem-of-requires : tie.Need-problem-of-requires
 problem-of-requires c κs = search needs
 
-search-requires : tie.Need-search-requires
-search-requires c κs =
+search-guard-requires : tie.Need-search-guard-requires
+search-guard-requires c κs =
     let t = c .before .before .before .before .before .read in
     let file = c .before .before .before .before .before .before .before .args .file in
     let taken : t .result .refused ≡ 0 = omega (arith, c .before .before .before .if1 .left) in
@@ -36,4 +36,4 @@ returns-2 c = search needs
 pub answer-spec : {M : Type 1} → statement M
 answer-spec =
     tie.close
-    (tie.spec read-requires print-refused-requires returns problem-of-requires search-requires print-outcome-requires returns-2)
+    (tie.spec read-requires print-refused-requires returns problem-of-requires search-guard-requires print-outcome-requires returns-2)
