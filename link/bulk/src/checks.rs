@@ -14,7 +14,7 @@ use oracle::vectors::records::{answer, parse};
 const OTHERS: usize = 64;
 const OTHER_NODES: u32 = 200;
 
-/// The most nodes of a record in another order, and of one that never ends.
+/// The most nodes of a record in another order, of an UNSAT guard and of any other.
 const MOST_NODES: usize = 60;
 const SOME_NODES: usize = 4;
 
@@ -45,10 +45,29 @@ impl Checker {
         known: &Known,
         checks: &mut Checks,
     ) -> Result<(), Box<Mismatch>> {
-        let mut pairs = vec![(file.to_vec(), self.others[random.below(OTHERS)].clone())];
+        for record in self.tried(random, known) {
+            let expected = answer(file, &record);
+            if expected == 0 && known.sat() {
+                let why = "the solver accepts a record of a guard that can hold";
+                return Err(mismatch(file, &record, why.to_string()));
+            }
+            check(desk, file, &record, expected, checks)?;
+        }
+        if known.unsat() {
+            let record = &known.record;
+            check(desk, file, record, 0, checks)?;
+            let mut other = file.to_vec();
+            files::change(random, &mut other);
+            check(desk, &other, record, answer(&other, record), checks)?;
+        }
+        Ok(())
+    }
+
+    /// Records that aren't the search's own: of another guard, damaged, and in another order.
+    fn tried(&self, random: &mut Random, known: &Known) -> Vec<Vec<u8>> {
+        let mut records = vec![self.others[random.below(OTHERS)].clone()];
         if !known.record.is_empty() {
-            let damaged = damaged(random, &known.record);
-            pairs.extend(damaged.map(|record| (file.to_vec(), record)));
+            records.extend(damaged(random, &known.record));
         }
         if let Ok(guard) = &known.guard {
             let most = if known.unsat() {
@@ -56,22 +75,14 @@ impl Checker {
             } else {
                 SOME_NODES
             };
-            pairs.push((file.to_vec(), orders::any(random, guard, most)));
+            records.push(orders::any(random, guard, most));
         }
-        if known.unsat() {
-            check(desk, file, &known.record, 0, checks)?;
-            let mut other = file.to_vec();
-            files::change(random, &mut other);
-            pairs.push((other, known.record.clone()));
-        }
-        for (file, record) in pairs {
-            check(desk, &file, &record, answer(&file, &record), checks)?;
-        }
-        Ok(())
+        records
     }
 }
 
-/// Records that aren't quite one that has bytes: cut, longer, and changed at one or two places.
+/// Records that aren't quite this one, which has bytes: cut, longer, with a byte changed, put in, left out or doubled, and with
+/// another small number.
 fn damaged(random: &mut Random, record: &[u8]) -> [Vec<u8>; 4] {
     let cut = record[..random.below(record.len())].to_vec();
     let longer = [record, &appendix(random, record)].concat();
@@ -108,10 +119,13 @@ fn check(
         checks.add(expected);
         return Ok(());
     }
-    Err(Box::new(Mismatch {
-        facts: vec![("file", hex(file)), ("record", hex(record))],
-        why: format!("the record is answered {answered}, expected {expected}"),
-    }))
+    let why = format!("the record is answered {answered}, expected {expected}");
+    Err(mismatch(file, record, why))
+}
+
+fn mismatch(file: &[u8], record: &[u8], why: String) -> Box<Mismatch> {
+    let facts = vec![("file", hex(file)), ("record", hex(record))];
+    Box::new(Mismatch { facts, why })
 }
 
 /// All lines of `records.txt`.

@@ -56,6 +56,11 @@ impl Known {
         self.guard.is_ok() && self.end == End::Closed
     }
 
+    /// Whether the guard is SAT, within the limit.
+    pub fn sat(&self) -> bool {
+        self.guard.is_ok() && self.end == End::Open
+    }
+
     /// The budgets to call with, rising.
     pub fn budgets(&self) -> Vec<u32> {
         let nodes = self.nodes;
