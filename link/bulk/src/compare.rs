@@ -1,181 +1,24 @@
 //! One file through the library and the outside solver: every call that is made of it, and what must hold of each.
 
-use crate::buffers::{Buffer, MOST_EXTRA};
+use crate::buffers::Buffer;
+use crate::calls::{self, Call, Expected, MOST_LONGER};
+use crate::checks::Checker;
 use crate::counts::Counts;
+use crate::desk::{Desk, Lent};
+use crate::files::Maker;
+use crate::known::Known;
+use crate::mismatch::Mismatch;
 use guarddesk::raw;
 use oracle::answer::Answer;
-use oracle::guard::{Guard, Limits};
 use oracle::random::Random;
-use oracle::read::{self, Question};
-use oracle::search::{search, End};
+use oracle::read::Question;
 use oracle::shown::check_known_call;
 use oracle::vectors::hex;
-use std::fmt;
 
-/// The library's call, or one in its place.
-pub trait Desk: Fn(&[u8], u32, &mut [i32], &mut [i32], &mut [u32]) -> u32 {}
-
-impl<D: Fn(&[u8], u32, &mut [i32], &mut [i32], &mut [u32]) -> u32> Desk for D {}
-
-/// A call that went wrong.
-#[derive(Debug)]
-pub struct Mismatch {
-    file: Vec<u8>,
-    call: Call,
-    code: u32,
-    numbers: Vec<u32>,
-    why: String,
-}
-
-impl fmt::Display for Mismatch {
-    fn fmt(&self, f: &mut fmt::Formatter<'_>) -> fmt::Result {
-        let Lengths {
-            rows,
-            places,
-            answer,
-        } = self.call.lengths;
-        writeln!(f, "file      {}", hex(&self.file))?;
-        writeln!(f, "budget    {}", self.call.budget)?;
-        writeln!(f, "lengths   {rows} rows, {places} places, {answer} answer")?;
-        match self.call.expected {
-            Some(expected) => writeln!(f, "solver    {expected}")?,
-            None => writeln!(f, "expected  code {}", raw::ANSWER_TOO_SHORT)?,
-        }
-        writeln!(f, "library   code {}, {:?}", self.code, self.numbers)?;
-        writeln!(f, "fault     {}", self.why)
-    }
-}
-
-/// A call to be made of a file.
-#[derive(Clone, Copy, Debug)]
-struct Call {
-    budget: u32,
-    lengths: Lengths,
-    /// Nothing where the answer buffer is too short for an answer.
-    expected: Option<Answer>,
-}
-
-/// How long the three buffers of a call are, in numbers.
-#[derive(Clone, Copy, Debug)]
-struct Lengths {
-    rows: usize,
-    places: usize,
-    answer: usize,
-}
-
-/// As long as asked, or longer by an odd number.
-fn enough(random: &mut Random, least: usize) -> usize {
-    if random.percent(50) {
-        least
-    } else {
-        least + 1 + 2 * random.below(MOST_EXTRA.div_ceil(2))
-    }
-}
-
-impl Lengths {
-    fn enough(random: &mut Random) -> Lengths {
-        Lengths {
-            rows: enough(random, raw::ROWS_LENGTH),
-            places: enough(random, raw::PLACES_LENGTH),
-            answer: enough(random, raw::ANSWER_LENGTH),
-        }
-    }
-
-    /// The row buffer, the place buffer or both too short; mostly by one number.
-    fn short(random: &mut Random) -> Lengths {
-        let mut lengths = Lengths::enough(random);
-        let which = 1 + random.below(3);
-        let by_one = random.percent(90);
-        let mut short = |least| {
-            if by_one {
-                least - 1
-            } else {
-                random.below(least)
-            }
-        };
-        if which & 1 != 0 {
-            lengths.rows = short(raw::ROWS_LENGTH);
-        }
-        if which & 2 != 0 {
-            lengths.places = short(raw::PLACES_LENGTH);
-        }
-        lengths
-    }
-}
-
-/// What the outside solver says of a file.
-struct Known {
-    /// An accepted file's guard, or the question that refuses it.
-    guard: Result<Guard, Question>,
-    /// How the search ended, within `limit` nodes.
-    end: End,
-    nodes: u32,
-}
-
-impl Known {
-    fn new(file: &[u8], limit: u32) -> Known {
-        let guard = read::read(file, Limits::BASE);
-        let (end, nodes) = match &guard {
-            Ok(guard) => {
-                let (end, tally) = search(guard, limit);
-                (end, tally.nodes)
-            }
-            Err(_) => (End::Closed, 0),
-        };
-        Known { guard, end, nodes }
-    }
-
-    /// "SPENT is given precisely if the walk would visit more nodes than the budget." No budget above the solver's own
-    /// limit may be asked of a search that ended there.
-    fn answer(&self, budget: u32) -> Answer {
-        match (&self.guard, self.end) {
-            (Err(question), _) => Answer::Refused(*question),
-            (Ok(_), End::Spent) => Answer::Spent { budget },
-            (Ok(_), _) if self.nodes > budget => Answer::Spent { budget },
-            (Ok(_), End::Open) => Answer::Sat { nodes: self.nodes },
-            (Ok(_), End::Closed) => Answer::Unsat { nodes: self.nodes },
-        }
-    }
-
-    /// The budgets to call with, rising.
-    fn budgets(&self) -> Vec<u32> {
-        let nodes = self.nodes;
-        let mut budgets = match (&self.guard, self.end) {
-            (Err(_), _) => vec![0, u32::MAX],
-            (Ok(_), End::Spent) => vec![0, nodes],
-            (Ok(_), _) => vec![0, nodes - 1, nodes, nodes + 1, u32::MAX],
-        };
-        budgets.dedup();
-        budgets
-    }
-
-    /// All calls to be made of the file.
-    fn calls(&self, random: &mut Random) -> Vec<Call> {
-        let budgets = self.budgets();
-        let call = |&budget: &u32| Call {
-            budget,
-            lengths: Lengths::enough(random),
-            expected: Some(self.answer(budget)),
-        };
-        let mut calls: Vec<Call> = budgets.iter().map(call).collect();
-        calls.push(Call {
-            budget: budgets[random.below(budgets.len())],
-            lengths: Lengths::short(random),
-            expected: Some(Answer::Refused(Question::BuffersLongEnough)),
-        });
-        if random.percent(5) {
-            calls.push(Call {
-                budget: budgets[random.below(budgets.len())],
-                lengths: Lengths {
-                    answer: random.below(raw::ANSWER_LENGTH),
-                    ..Lengths::enough(random)
-                },
-                expected: None,
-            });
-        }
-        calls
-    }
-}
+/// Bytes of a node in a record, at the most: three numbers below 128.
+const NODE_BYTES: usize = 3;
+/// The question that an outgrown record gets a no to.
+const RECORD_FITS: u32 = 11;
 
 /// The answer that the three numbers stand for, with its number of rows.
 fn claimed(numbers: &[u32]) -> Option<(Answer, usize)> {
@@ -199,25 +42,35 @@ fn ensure(condition: bool, why: &str) -> Result<(), String> {
     condition.then_some(()).ok_or_else(|| why.to_string())
 }
 
+fn all_zero<T: Default + PartialEq>(numbers: &[T]) -> bool {
+    numbers.iter().all(|number| *number == T::default())
+}
+
 /// What compares: the library with buffers to lend.
 pub struct Comparer<D> {
     desk: D,
     limit: u32,
     rows: Buffer<i32>,
     places: Buffer<i32>,
+    record: Buffer<u8>,
     answer: Buffer<u32>,
+    checker: Checker,
 }
 
 impl<D: Desk> Comparer<D> {
     /// Guards of more nodes than `limit` are compared with budgets up to it only.
-    pub fn new(desk: D, limit: u32) -> Comparer<D> {
+    pub fn new(desk: D, limit: u32, maker: &Maker) -> Comparer<D> {
         let random = &mut Random::named("noise");
+        let record = NODE_BYTES * limit as usize + MOST_LONGER;
         Comparer {
             desk,
             limit,
             rows: Buffer::new(random, raw::ROWS_LENGTH, |n| n as i32),
             places: Buffer::new(random, raw::PLACES_LENGTH, |n| n as i32),
             answer: Buffer::new(random, raw::ANSWER_LENGTH, |n| n),
+            // Cut down to a byte, the noise has no 0 either.
+            record: Buffer::new(random, record, |n| n as u8),
+            checker: Checker::new(maker),
         }
     }
 
@@ -229,12 +82,18 @@ impl<D: Desk> Comparer<D> {
         counts: &mut Counts,
     ) -> Result<(), Box<Mismatch>> {
         let known = Known::new(file, self.limit);
-        counts.add_file(known.answer(self.limit));
-        for call in known.calls(random) {
+        counts.add_file(known.answer(self.limit), known.record.len());
+        for call in calls::decide(&known, random) {
             let rows = self.call(random, file, &known, call)?;
-            counts.add_call(call.expected, rows);
+            counts.add_decide(call.expected, rows);
         }
-        Ok(())
+        for call in calls::explain(&known, random) {
+            self.call(random, file, &known, call)?;
+            counts.add_explain(call.expected);
+        }
+        let checked = &mut counts.checked;
+        self.checker
+            .compare(&self.desk, random, file, &known, checked)
     }
 
     /// One call, and the number of rows shown.
@@ -245,71 +104,110 @@ impl<D: Desk> Comparer<D> {
         known: &Known,
         call: Call,
     ) -> Result<usize, Box<Mismatch>> {
-        let code = (self.desk)(
-            file,
-            call.budget,
-            self.rows.lend(random, call.lengths.rows),
-            self.places.lend(random, call.lengths.places),
-            self.answer.lend(random, call.lengths.answer),
-        );
-        let checked = match call.expected {
-            Some(expected) => self.check_answered(code, expected, known),
-            None => self.check_too_short(code),
-        };
-        checked.map_err(|why| {
-            let numbers = self.answer.content().iter().copied();
-            Box::new(Mismatch {
-                file: file.to_vec(),
-                call,
-                code,
-                numbers: numbers.take(raw::ANSWER_LENGTH).collect(),
-                why,
-            })
+        let code = self.make(random, file, call);
+        self.check(code, known, call).map_err(|why| {
+            let numbers = self.answer.content();
+            let numbers = &numbers[..numbers.len().min(raw::ANSWER_LENGTH)];
+            let mut facts = vec![
+                ("file", hex(file)),
+                ("budget", call.budget.to_string()),
+                ("lengths", call.lengths.to_string()),
+                ("solver", call.expected.to_string()),
+                ("library", format!("returned {code}, {numbers:?}")),
+            ];
+            if call.lengths.record.is_some() {
+                facts.push(("expected", hex(call.record(known))));
+                facts.push(("record", hex(self.record.content())));
+            }
+            Box::new(Mismatch { facts, why })
         })
     }
 
-    /// The number of rows shown.
-    fn check_answered(&self, code: u32, expected: Answer, known: &Known) -> Result<usize, String> {
-        ensure(code == raw::ANSWERED, "the code is another")?;
-        let margins = self.rows.margins_kept() && self.places.margins_kept();
-        ensure(margins, "something is written outside a buffer")?;
-        let kept = self.answer.kept(raw::ANSWER_LENGTH);
-        ensure(kept, "something is written outside the three numbers")?;
-        let numbers = &self.answer.content()[..raw::ANSWER_LENGTH];
-        let claim = claimed(numbers).ok_or("the numbers are no answer")?;
-        let guard = known.guard.as_ref().ok();
-        check_known_call(
-            expected,
-            guard,
-            claim,
-            self.rows.content(),
-            self.places.content(),
-        )?;
-        Ok(claim.1)
+    /// What the desk's call returns.
+    fn make(&mut self, random: &mut Random, file: &[u8], call: Call) -> usize {
+        let lent = &mut Lent {
+            rows: self.rows.lend(random, call.lengths.rows),
+            places: self.places.lend(random, call.lengths.places),
+            answer: self.answer.lend(random, call.lengths.answer),
+            record: self.record.lend(random, call.lengths.record.unwrap_or(0)),
+        };
+        match call.lengths.record {
+            None => self.desk.decide(file, call.budget, lent) as usize,
+            Some(_) => self.desk.explain(file, call.budget, lent),
+        }
     }
 
-    fn check_too_short(&self, code: u32) -> Result<usize, String> {
-        ensure(code == raw::ANSWER_TOO_SHORT, "the code is another")?;
-        let kept = self.rows.kept(0) && self.places.kept(0) && self.answer.kept(0);
+    /// The number of rows shown.
+    fn check(&self, code: usize, known: &Known, call: Call) -> Result<usize, String> {
+        ensure(code == call.code(known), "what it returned is another")?;
+        if call.expected == Expected::TooShort {
+            return self.check_nothing_written();
+        }
+        self.check_kept()?;
+        self.check_record(call.record(known))?;
+        match call.expected {
+            Expected::Answer(answer) => self.check_answered(answer, known),
+            _ => self.check_outgrown(),
+        }
+    }
+
+    fn check_nothing_written(&self) -> Result<usize, String> {
+        let kept = self.rows.kept(0) && self.places.kept(0);
+        let kept = kept && self.record.kept(0) && self.answer.kept(0);
         ensure(kept, "something is written")?;
         Ok(0)
     }
-}
 
-/// A wrong desk of the tests.
-#[cfg(test)]
-pub type Planted = fn(&[u8], u32, &mut [i32], &mut [i32], &mut [u32]) -> u32;
+    fn check_kept(&self) -> Result<(), String> {
+        let margins = self.rows.margins_kept() && self.places.margins_kept();
+        let margins = margins && self.record.margins_kept();
+        ensure(margins, "something is written outside a buffer")?;
+        let kept = self.answer.kept(raw::ANSWER_LENGTH);
+        ensure(kept, "something is written outside the three numbers")
+    }
+
+    fn numbers(&self) -> &[u32] {
+        &self.answer.content()[..raw::ANSWER_LENGTH]
+    }
+
+    fn check_outgrown(&self) -> Result<usize, String> {
+        let refused = self.numbers() == [raw::REFUSED, RECORD_FITS, 0];
+        ensure(refused, "expected REFUSED 11")?;
+        let clear = all_zero(self.rows.content()) && all_zero(self.places.content());
+        ensure(clear, "a buffer isn't all 0 after REFUSED 11")?;
+        Ok(0)
+    }
+
+    fn check_answered(&self, expected: Answer, known: &Known) -> Result<usize, String> {
+        let claim = claimed(self.numbers()).ok_or("the numbers are no answer")?;
+        let (rows, places) = (self.rows.content(), self.places.content());
+        check_known_call(expected, known.guard.as_ref().ok(), claim, rows, places)?;
+        Ok(claim.1)
+    }
+
+    fn check_record(&self, expected: &[u8]) -> Result<(), String> {
+        let (front, behind) = self.record.content().split_at(expected.len());
+        ensure(front == expected, "the record is another")?;
+        ensure(all_zero(behind), "a byte that isn't of a record isn't 0")
+    }
+}
 
 #[cfg(test)]
 mod tests {
     use super::*;
-    use crate::files::Maker;
+    use crate::desk::planted::{Check, Decide, Explain};
+    use crate::desk::Library;
+    use crate::library;
     use guarddesk::raw::decide_into;
+
+    type WrongDecide = fn(&[u8], u32, &mut [i32], &mut [i32], &mut [u32]) -> u32;
+    type WrongExplain = fn(&[u8], u32, &mut Lent) -> usize;
+    type WrongCheck = fn(&[u8], &[u8]) -> u32;
 
     /// The first fault that a desk shows on some hundred files.
     fn fault(desk: impl Desk) -> Option<String> {
         let maker = Maker::default();
-        let mut comparer = Comparer::new(desk, 2_000);
+        let mut comparer = Comparer::new(desk, 2_000, &maker);
         let mut random = Random::named("planted");
         let mut counts = Counts::default();
         (0..600).find_map(|_| {
@@ -326,18 +224,20 @@ mod tests {
 
     /// As the library, then a change after one verdict.
     fn after(verdict: u32, change: fn(&mut [i32], &mut [i32], &mut [u32])) -> impl Desk {
-        move |file: &[u8], budget, rows: &mut [i32], places: &mut [i32], answer: &mut [u32]| {
-            let code = decide_into(file, budget, rows, places, answer);
-            if code == raw::ANSWERED && answer[0] == verdict {
-                change(rows, places, answer);
-            }
-            code
-        }
+        Decide(
+            move |file: &[u8], budget, rows: &mut [i32], places: &mut [i32], answer: &mut [u32]| {
+                let code = decide_into(file, budget, rows, places, answer);
+                if code == raw::ANSWERED && answer[0] == verdict {
+                    change(rows, places, answer);
+                }
+                code
+            },
+        )
     }
 
     #[test]
     fn the_library_is_right() {
-        assert_eq!(fault(decide_into), None);
+        assert_eq!(fault(Library), None);
     }
 
     #[test]
@@ -348,7 +248,7 @@ mod tests {
             (&[0xff; 6], Question::NumberForm),
         ] {
             let mut counts = Counts::default();
-            let mut comparer = Comparer::new(decide_into, 1);
+            let mut comparer = Comparer::new(Library, 1, &Maker::default());
             comparer
                 .compare(&mut Random::new(1), file, &mut counts)
                 .expect("no mismatch");
@@ -392,14 +292,14 @@ mod tests {
 
     #[test]
     fn a_budget_off_by_one_is_found() {
-        let less: Planted = |file, budget, rows, places, answer| {
+        let less: WrongDecide = |file, budget, rows, places, answer| {
             decide_into(file, budget.saturating_sub(1), rows, places, answer)
         };
-        assert_found(less, "answered SPENT");
-        let more: Planted = |file, budget, rows, places, answer| {
+        assert_found(Decide(less), "answered SPENT");
+        let more: WrongDecide = |file, budget, rows, places, answer| {
             decide_into(file, budget.saturating_add(1), rows, places, answer)
         };
-        assert_found(more, "expected SPENT 0");
+        assert_found(Decide(more), "expected SPENT 0");
     }
 
     #[test]
@@ -453,7 +353,7 @@ mod tests {
     #[test]
     fn a_short_buffer_that_is_taken_is_found() {
         // Over a longer buffer of its own, all right but for question 1.
-        let taken: Planted = |file, budget, rows, places, answer| {
+        let taken: WrongDecide = |file, budget, rows, places, answer| {
             let mut own = vec![0; raw::ROWS_LENGTH];
             let code = decide_into(file, budget, &mut own, places, answer);
             let shown = rows.len().min(own.len());
@@ -461,29 +361,29 @@ mod tests {
             rows[..shown].copy_from_slice(&own[..shown]);
             code
         };
-        assert_found(taken, "expected REFUSED 1");
+        assert_found(Decide(taken), "expected REFUSED 1");
     }
 
     #[test]
     fn a_wrong_code_is_found() {
-        let always: Planted = |file, budget, rows, places, answer| {
+        let always: WrongDecide = |file, budget, rows, places, answer| {
             decide_into(file, budget, rows, places, answer);
             raw::ANSWERED
         };
-        assert_found(always, "the code is another");
-        let never: Planted = |file, budget, rows, places, answer| {
+        assert_found(Decide(always), "what it returned is another");
+        let never: WrongDecide = |file, budget, rows, places, answer| {
             decide_into(file, budget, rows, places, answer);
             raw::ANSWER_TOO_SHORT
         };
-        assert_found(never, "the code is another");
-        let cleared: Planted = |file, budget, rows, places, answer| {
+        assert_found(Decide(never), "what it returned is another");
+        let cleared: WrongDecide = |file, budget, rows, places, answer| {
             let code = decide_into(file, budget, rows, places, answer);
             if code == raw::ANSWER_TOO_SHORT {
                 mark_last(places);
             }
             code
         };
-        assert_found(cleared, "something is written");
+        assert_found(Decide(cleared), "something is written");
     }
 
     #[test]
@@ -494,5 +394,131 @@ mod tests {
             }
         };
         assert_found(after(raw::SAT, past), "outside the three numbers");
+    }
+
+    fn explain(file: &[u8], budget: u32, lent: &mut Lent) -> usize {
+        Library.explain(file, budget, lent)
+    }
+
+    /// As the library, then a change of the record buffer and the answer after one verdict.
+    fn after_explain(verdict: u32, change: fn(&mut [u8], &mut [u32])) -> impl Desk {
+        Explain(move |file: &[u8], budget, lent: &mut Lent| {
+            let bytes = explain(file, budget, lent);
+            if bytes != library::ANSWER_TOO_SHORT && lent.answer[0] == verdict {
+                change(lent.record, lent.answer);
+            }
+            bytes
+        })
+    }
+
+    #[test]
+    fn a_wrong_explained_answer_is_found() {
+        use raw::{REFUSED, SAT, SPENT, UNSAT};
+        for (verdict, words) in [
+            (SAT, "expected SAT"),
+            (UNSAT, "expected UNSAT"),
+            (SPENT, "expected SPENT"),
+            (REFUSED, "expected REFUSED"),
+        ] {
+            let change = |_: &mut [u8], answer: &mut [u32]| answer[1] = answer[1] % 9 + 1;
+            assert_found(after_explain(verdict, change), words);
+        }
+        let spent = |_: &mut [u8], answer: &mut [u32]| {
+            if answer[1] == 11 {
+                answer[0] = SPENT;
+            }
+        };
+        assert_found(after_explain(REFUSED, spent), "expected REFUSED 11");
+    }
+
+    #[test]
+    fn a_wrong_record_is_found() {
+        let first = |record: &mut [u8], _: &mut [u32]| record[0] ^= 1;
+        assert_found(after_explain(raw::UNSAT, first), "the record is another");
+        let last = |record: &mut [u8], _: &mut [u32]| {
+            if let Some(byte) = record.last_mut() {
+                *byte += 1;
+            }
+        };
+        // Behind the record, or its last byte.
+        assert_found(after_explain(raw::UNSAT, last), "");
+        for verdict in [raw::SAT, raw::SPENT, raw::REFUSED] {
+            assert_found(after_explain(verdict, last), "isn't 0");
+        }
+    }
+
+    #[test]
+    fn a_record_of_another_length_is_found() {
+        let more: WrongExplain = |file, budget, lent| explain(file, budget, lent).saturating_add(1);
+        assert_found(Explain(more), "what it returned is another");
+        let always: WrongExplain = |file, budget, lent| match explain(file, budget, lent) {
+            library::ANSWER_TOO_SHORT => 0,
+            bytes => bytes,
+        };
+        assert_found(Explain(always), "what it returned is another");
+    }
+
+    #[test]
+    fn a_short_record_buffer_that_is_taken_is_found() {
+        // Over a longer buffer of its own, all right but for question 11.
+        let taken: WrongExplain = |file, budget, lent| {
+            let mut own = vec![0; lent.record.len() + 1];
+            let Lent { rows, places, .. } = lent;
+            let bytes = library::explain_into(file, budget, rows, places, &mut own, lent.answer);
+            if bytes != library::ANSWER_TOO_SHORT {
+                lent.record.copy_from_slice(&own[..lent.record.len()]);
+            }
+            bytes
+        };
+        assert_found(Explain(taken), "what it returned is another");
+    }
+
+    #[test]
+    fn a_buffer_that_is_not_cleared_after_11_is_found() {
+        let mark_rows: WrongExplain = |file, budget, lent| {
+            let bytes = explain(file, budget, lent);
+            if lent.answer.starts_with(&[raw::REFUSED, RECORD_FITS]) {
+                mark_last(lent.rows);
+            }
+            bytes
+        };
+        let mark_places: WrongExplain = |file, budget, lent| {
+            let bytes = explain(file, budget, lent);
+            if lent.answer.starts_with(&[raw::REFUSED, RECORD_FITS]) {
+                mark_last(lent.places);
+            }
+            bytes
+        };
+        for wrong in [mark_rows, mark_places] {
+            assert_found(Explain(wrong), "isn't all 0 after REFUSED 11");
+        }
+    }
+
+    #[test]
+    fn a_record_written_without_an_answer_is_found() {
+        let short: WrongExplain = |file, budget, lent| {
+            let bytes = explain(file, budget, lent);
+            if bytes == library::ANSWER_TOO_SHORT {
+                lent.record.fill(0);
+            }
+            bytes
+        };
+        assert_found(Explain(short), "something is written");
+    }
+
+    #[test]
+    fn a_wrong_check_is_found() {
+        let accepted: WrongCheck = |file, record| match library::check(file, record) {
+            0 => 13,
+            question => question,
+        };
+        assert_found(Check(accepted), "answered 13, expected 0");
+        for wrong in [
+            (|file, record| library::check(file, record) % 13) as WrongCheck,
+            |file, record| library::check(file, record) % 12,
+            |file, record| library::check(file, record) % 10,
+        ] {
+            assert_found(Check(wrong), "the record is answered");
+        }
     }
 }

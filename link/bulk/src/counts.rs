@@ -1,5 +1,6 @@
 //! What was seen, counted.
 
+use crate::calls::Expected;
 use oracle::answer::Answer;
 use std::fmt;
 
@@ -27,14 +28,27 @@ impl Answers {
         self.sat += other.sat;
         self.unsat += other.unsat;
         self.spent += other.spent;
-        for (count, more) in self.refused.iter_mut().zip(other.refused) {
-            *count += more;
-        }
+        merge_all(&mut self.refused, &other.refused);
     }
 
     fn total(&self) -> u64 {
         self.sat + self.unsat + self.spent + self.refused.iter().sum::<u64>()
     }
+}
+
+fn merge_all(counts: &mut [u64], others: &[u64]) {
+    for (count, more) in counts.iter_mut().zip(others) {
+        *count += more;
+    }
+}
+
+/// A line of the questions from `first` on.
+fn by_question(f: &mut fmt::Formatter<'_>, first: usize, counts: &[u64]) -> fmt::Result {
+    let numbered = counts.iter().enumerate();
+    let counts: Vec<String> = numbered
+        .map(|(i, count)| format!("{}: {count}", first + i))
+        .collect();
+    writeln!(f, "    refused by question {}", counts.join(", "))
 }
 
 impl fmt::Display for Answers {
@@ -47,11 +61,73 @@ impl fmt::Display for Answers {
             f,
             "SAT {sat}, UNSAT {unsat}, SPENT {spent}, REFUSED {refused}"
         )?;
-        write!(f, "    refused by question")?;
-        for (i, count) in self.refused.iter().enumerate() {
-            write!(f, "{} {}: {count}", if i == 0 { "" } else { "," }, i + 1)?;
+        by_question(f, 1, &self.refused)
+    }
+}
+
+/// Counts of calls.
+#[derive(Clone, Copy, Debug, Default, PartialEq, Eq)]
+pub struct Calls {
+    pub answers: Answers,
+    /// REFUSED 11.
+    pub outgrown: u64,
+    /// Calls with too short an answer buffer.
+    pub too_short: u64,
+}
+
+impl Calls {
+    fn add(&mut self, expected: Expected) {
+        match expected {
+            Expected::Answer(answer) => self.answers.add(answer),
+            Expected::Outgrown => self.outgrown += 1,
+            Expected::TooShort => self.too_short += 1,
         }
-        writeln!(f)
+    }
+
+    fn merge(&mut self, other: &Calls) {
+        self.answers.merge(&other.answers);
+        self.outgrown += other.outgrown;
+        self.too_short += other.too_short;
+    }
+
+    fn total(&self) -> u64 {
+        self.answers.total() + self.outgrown + self.too_short
+    }
+}
+
+impl fmt::Display for Calls {
+    fn fmt(&self, f: &mut fmt::Formatter<'_>) -> fmt::Result {
+        write!(f, "{}", self.answers)?;
+        writeln!(
+            f,
+            "    too short a record buffer, REFUSED 11: {}",
+            self.outgrown
+        )?;
+        writeln!(f, "    too short an answer buffer: {}", self.too_short)
+    }
+}
+
+/// Counts of the checker's answers, by number; 0 is that of a record that is accepted.
+#[derive(Clone, Copy, Debug, Default, PartialEq, Eq)]
+pub struct Checks(pub [u64; 14]);
+
+impl Checks {
+    /// An answer that was right.
+    pub fn add(&mut self, answer: u8) {
+        self.0[usize::from(answer)] += 1;
+    }
+
+    pub fn total(&self) -> u64 {
+        self.0.iter().sum()
+    }
+}
+
+impl fmt::Display for Checks {
+    fn fmt(&self, f: &mut fmt::Formatter<'_>) -> fmt::Result {
+        let accepted = self.0[0];
+        let refused = self.total() - accepted;
+        writeln!(f, "accepted {accepted}, REFUSED {refused}")?;
+        by_question(f, 2, &self.0[2..])
     }
 }
 
@@ -60,48 +136,66 @@ impl fmt::Display for Answers {
 pub struct Counts {
     /// By the answer within the solver's limit; SPENT takes more nodes than that.
     pub files: Answers,
-    pub calls: Answers,
-    /// Calls with too short an answer buffer.
-    pub too_short: u64,
+    pub decided: Calls,
+    pub explained: Calls,
+    pub checked: Checks,
     pub most_nodes: u32,
     pub most_rows: usize,
+    /// In bytes.
+    pub longest_record: usize,
 }
 
 impl Counts {
     /// A file with the solver's answer within its own limit.
-    pub fn add_file(&mut self, answer: Answer) {
+    pub fn add_file(&mut self, answer: Answer, record: usize) {
         self.files.add(answer);
         if let Answer::Sat { nodes } | Answer::Unsat { nodes } = answer {
             self.most_nodes = self.most_nodes.max(nodes);
         }
+        if let Answer::Unsat { .. } = answer {
+            self.longest_record = self.longest_record.max(record);
+        }
     }
 
     /// A call that was right, with its number of rows.
-    pub fn add_call(&mut self, answer: Option<Answer>, rows: usize) {
-        match answer {
-            Some(answer) => self.calls.add(answer),
-            None => self.too_short += 1,
-        }
+    pub fn add_decide(&mut self, expected: Expected, rows: usize) {
+        self.decided.add(expected);
         self.most_rows = self.most_rows.max(rows);
+    }
+
+    pub fn add_explain(&mut self, expected: Expected) {
+        self.explained.add(expected);
     }
 
     /// Adds another thread's.
     pub fn merge(&mut self, other: &Counts) {
         self.files.merge(&other.files);
-        self.calls.merge(&other.calls);
-        self.too_short += other.too_short;
+        self.decided.merge(&other.decided);
+        self.explained.merge(&other.explained);
+        merge_all(&mut self.checked.0, &other.checked.0);
         self.most_nodes = self.most_nodes.max(other.most_nodes);
         self.most_rows = self.most_rows.max(other.most_rows);
+        self.longest_record = self.longest_record.max(other.longest_record);
     }
 }
 
 impl fmt::Display for Counts {
     fn fmt(&self, f: &mut fmt::Formatter<'_>) -> fmt::Result {
-        write!(f, "files {}: {}", self.files.total(), self.files)?;
-        let calls = self.calls.total() + self.too_short;
-        write!(f, "calls {calls}: {}", self.calls)?;
-        writeln!(f, "    too short an answer buffer: {}", self.too_short)?;
-        let (nodes, rows) = (self.most_nodes, self.most_rows);
-        writeln!(f, "most nodes {nodes}, most rows {rows}")
+        let Counts {
+            files,
+            decided,
+            explained,
+            checked,
+            ..
+        } = self;
+        write!(f, "files {}: {files}", files.total())?;
+        write!(f, "decide {}: {decided}", decided.total())?;
+        write!(f, "explain {}: {explained}", explained.total())?;
+        write!(f, "check {}: {checked}", checked.total())?;
+        let (nodes, rows, record) = (self.most_nodes, self.most_rows, self.longest_record);
+        writeln!(
+            f,
+            "most nodes {nodes}, most rows {rows}, longest record {record}"
+        )
     }
 }

@@ -1,6 +1,6 @@
 //! Files of many kinds, each from a seed and its own number: guards that are accepted, and files damaged in many ways.
 
-use oracle::encode::{bytes, Draft, Role, Token};
+use oracle::encode::{bytes, Draft, Role};
 use oracle::guard::Limits;
 use oracle::random::{draft, Profile, Random, Types};
 use oracle::read::Question;
@@ -200,27 +200,42 @@ fn values(random: &mut Random) -> Vec<u8> {
 
 /// An accepted file with one byte changed, put in, left out or doubled, or one number changed.
 fn changed(random: &mut Random) -> Vec<u8> {
-    let tokens = broken::whole(random).tokens(Limits::BASE);
+    let mut tokens = broken::whole(random).tokens(Limits::BASE);
     let mut file = bytes(&tokens);
     let at = random.below(file.len());
-    match random.below(8) {
-        0 => file[at] = random.bits() as u8,
-        1 => file[at] ^= 1 << random.below(8),
-        2 => file[at] = file[at].wrapping_add(1),
-        3 => file[at] = file[at].wrapping_sub(1),
-        4 => file.insert(at, random.below(5) as u8),
-        5 => file.insert(at, file[at]),
-        6 => {
-            file.remove(at);
-        }
+    let how = random.below(CHANGES + 1);
+    if how == CHANGES {
+        let at = random.below(tokens.len());
+        tokens[at].number = random.below(25) as u32;
+        return bytes(&tokens);
+    }
+    change_at(random, &mut file, at, how);
+    file
+}
+
+/// How many changes `change_at` knows.
+const CHANGES: usize = 7;
+
+/// One byte changed, put in, left out or doubled.
+fn change_at(random: &mut Random, bytes: &mut Vec<u8>, at: usize, how: usize) {
+    match how {
+        0 => bytes[at] = random.bits() as u8,
+        1 => bytes[at] ^= 1 << random.below(8),
+        2 => bytes[at] = bytes[at].wrapping_add(1),
+        3 => bytes[at] = bytes[at].wrapping_sub(1),
+        4 => bytes.insert(at, random.below(5) as u8),
+        5 => bytes.insert(at, bytes[at]),
         _ => {
-            let mut tokens: Vec<Token> = tokens;
-            let at = random.below(tokens.len());
-            tokens[at].number = random.below(25) as u32;
-            return bytes(&tokens);
+            bytes.remove(at);
         }
     }
-    file
+}
+
+/// One byte of some changed, put in, left out or doubled.
+pub fn change(random: &mut Random, bytes: &mut Vec<u8>) {
+    let at = random.below(bytes.len());
+    let how = random.below(CHANGES);
+    change_at(random, bytes, at, how);
 }
 
 /// An accepted file up to some number, then four or five bytes with bit 80 set. It ends there, or goes on.

@@ -4,15 +4,25 @@
 //! files and calls, whatever the number of threads.
 
 mod buffers;
+mod calls;
+mod checks;
 mod compare;
 mod counts;
+mod desk;
 mod files;
+mod known;
+mod library;
+mod mismatch;
+mod orders;
 mod smt;
 
-use compare::{Comparer, Desk, Mismatch};
+use compare::Comparer;
 use counts::Counts;
+use desk::{Desk, Library};
 use files::Maker;
+use mismatch::Mismatch;
 use oracle::random::Random;
+use std::fs;
 use std::process::ExitCode;
 use std::sync::atomic::{AtomicU64, Ordering};
 use std::thread;
@@ -20,12 +30,16 @@ use std::time::Instant;
 
 const USAGE: &str = "\
 usage: bulk [smt] [--files N] [--seed S] [--threads T] [--limit NODES]
-N files (20000) from the seed S (1) in T threads (1). Guards of more nodes than the limit (20000) are compared with budgets
-up to it only; SPENT in the line of files counts them. With smt nothing is compared: the guards are printed in SMT-LIB 2,
-each with the library's verdict, those within the limit only.";
+       bulk records FILE
+N files (20000) from the seed S (1) in T threads (1). Guards of more nodes than the limit (20000, at most 1000000) are
+compared with budgets up to it only; SPENT in the line of files counts them. With smt nothing is compared: the guards are
+printed in SMT-LIB 2, each with the library's verdict, those within the limit only. With records the library's checker
+answers the lines of records.txt.";
 
 /// The stack of a thread: what a call needs, and plenty for the solver.
 const STACK: usize = 8 << 20;
+/// The most that the limit can be. Records of so many nodes have buffers from the start.
+const MOST_LIMIT: u32 = 1_000_000;
 /// How many files a thread takes at a time.
 const BLOCK: u64 = 64;
 
@@ -51,8 +65,9 @@ fn options(words: &[String]) -> Option<Options> {
             "--files" => options.files = value.parse().ok()?,
             "--seed" => options.seed = value.parse().ok()?,
             "--threads" => options.threads = value.parse().ok().filter(|&many| many > 0)?,
-            // The solver's own node counts stay below, so that one more is a budget too.
-            "--limit" => options.limit = value.parse().ok().filter(|&limit| limit < u32::MAX)?,
+            "--limit" => {
+                options.limit = value.parse().ok().filter(|&limit| limit <= MOST_LIMIT)?;
+            }
             _ => return None,
         }
     }
@@ -76,8 +91,8 @@ fn work(
     stop: &AtomicU64,
 ) -> (Counts, Option<Found>) {
     let mut counts = Counts::default();
-    let mut comparer = Comparer::new(desk, options.limit);
     let maker = Maker::default();
+    let mut comparer = Comparer::new(desk, options.limit, &maker);
     loop {
         let first = next.fetch_add(BLOCK, Ordering::Relaxed);
         for number in first..first + BLOCK {
@@ -124,22 +139,31 @@ fn run(options: &Options, desk: impl Desk + Copy + Send) -> (Counts, Option<Foun
 
 fn main() -> ExitCode {
     let words: Vec<String> = std::env::args().skip(1).collect();
-    let smt = words.first().is_some_and(|word| word == "smt");
-    let Some(options) = options(&words[usize::from(smt)..]) else {
-        eprintln!("{USAGE}");
-        return ExitCode::from(2);
-    };
-    if smt {
-        return match smt::print(&options) {
-            Ok(()) => ExitCode::SUCCESS,
-            Err(error) => {
-                eprintln!("bulk: standard output can't be written: {error}");
-                ExitCode::from(2)
-            }
-        };
+    let command: Vec<&str> = words.iter().map(String::as_str).collect();
+    match command[..] {
+        ["records", path] => return compare_lines(path),
+        ["smt", ..] => options(&words[1..]).map(|options| print_smt(&options)),
+        _ => options(&words).map(|options| compare_files(&options)),
     }
+    .unwrap_or_else(|| {
+        eprintln!("{USAGE}");
+        ExitCode::from(2)
+    })
+}
+
+fn print_smt(options: &Options) -> ExitCode {
+    match smt::print(options) {
+        Ok(()) => ExitCode::SUCCESS,
+        Err(error) => {
+            eprintln!("bulk: standard output can't be written: {error}");
+            ExitCode::from(2)
+        }
+    }
+}
+
+fn compare_files(options: &Options) -> ExitCode {
     let start = Instant::now();
-    let (counts, found) = run(&options, guarddesk::raw::decide_into);
+    let (counts, found) = run(options, Library);
     print!("{counts}");
     println!("seed {}, {:.1?}", options.seed, start.elapsed());
     match found {
@@ -154,10 +178,31 @@ fn main() -> ExitCode {
     }
 }
 
+fn compare_lines(path: &str) -> ExitCode {
+    let text = match fs::read_to_string(path) {
+        Ok(text) => text,
+        Err(error) => {
+            eprintln!("bulk: {path} can't be read: {error}");
+            return ExitCode::from(2);
+        }
+    };
+    match checks::compare_lines(&Library, &text) {
+        Ok(checks) => {
+            print!("check {}: {checks}", checks.total());
+            println!("all right");
+            ExitCode::SUCCESS
+        }
+        Err(why) => {
+            println!("{why}");
+            ExitCode::FAILURE
+        }
+    }
+}
+
 #[cfg(test)]
 mod tests {
     use super::*;
-    use compare::Planted;
+    use desk::planted::Decide;
     use guarddesk::raw;
 
     fn some(threads: u64) -> Options {
@@ -171,29 +216,40 @@ mod tests {
 
     #[test]
     fn the_same_whatever_the_threads() {
-        let (counts, found) = run(&some(1), raw::decide_into);
+        let (counts, found) = run(&some(1), Library);
         assert!(found.is_none());
-        assert_eq!(counts, run(&some(3), raw::decide_into).0);
+        assert_eq!(counts, run(&some(3), Library).0);
     }
 
     #[test]
     fn every_answer_is_met() {
-        let (counts, _) = run(&some(2), raw::decide_into);
-        assert!(counts.files.sat > 0 && counts.files.unsat > 0 && counts.calls.spent > 0);
-        assert!(counts.calls.refused.iter().all(|&many| many > 0));
-        assert!(counts.too_short > 0 && counts.most_nodes > 1 && counts.most_rows > 1);
+        let (counts, _) = run(&some(2), Library);
+        assert!(counts.files.sat > 0 && counts.files.unsat > 0);
+        for calls in [counts.decided, counts.explained] {
+            assert!(calls.answers.sat > 0 && calls.answers.unsat > 0 && calls.answers.spent > 0);
+            assert!(calls.answers.refused.iter().all(|&many| many > 0));
+            assert!(calls.too_short > 0);
+        }
+        assert!(counts.decided.outgrown == 0 && counts.explained.outgrown > 0);
+        let answers = (0..).zip(counts.checked.0);
+        for (answer, many) in answers.filter(|(answer, _)| ![1, 11].contains(answer)) {
+            assert!(many > 0, "no record is answered {answer}");
+        }
+        assert!(counts.most_nodes > 1 && counts.most_rows > 1 && counts.longest_record > 2);
     }
 
     /// Wrong in some calls only.
     #[test]
     fn the_first_mismatch_whatever_the_threads() {
-        let wrong: Planted = |file, budget, rows, places, answer| {
-            let code = raw::decide_into(file, budget, rows, places, answer);
-            if code == raw::ANSWERED && answer[0] == raw::SAT && answer[1] > 9 {
-                answer[1] = 9;
-            }
-            code
-        };
+        let wrong = Decide(
+            |file: &[u8], budget, rows: &mut [i32], places: &mut [i32], answer: &mut [u32]| {
+                let code = raw::decide_into(file, budget, rows, places, answer);
+                if code == raw::ANSWERED && answer[0] == raw::SAT && answer[1] > 9 {
+                    answer[1] = 9;
+                }
+                code
+            },
+        );
         let texts = [1, 4].map(|threads| {
             let (_, found) = run(&some(threads), wrong);
             let (number, mismatch) = found.expect("a mismatch");
@@ -225,7 +281,7 @@ mod tests {
             "--files",
             "--files x",
             "--threads 0",
-            "--limit 4294967295",
+            "--limit 1000001",
             "5 6",
         ] {
             assert!(parse(wrong).is_none(), "{wrong}");

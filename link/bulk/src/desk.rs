@@ -1,0 +1,73 @@
+//! The calls that are compared.
+
+use crate::library;
+use guarddesk::raw;
+
+/// The buffers of a call.
+pub struct Lent<'l> {
+    pub rows: &'l mut [i32],
+    pub places: &'l mut [i32],
+    /// Not lent to the call without a record.
+    pub record: &'l mut [u8],
+    pub answer: &'l mut [u32],
+}
+
+/// The library's calls, or others in their place.
+pub trait Desk {
+    fn decide(&self, file: &[u8], budget: u32, lent: &mut Lent) -> u32 {
+        raw::decide_into(file, budget, lent.rows, lent.places, lent.answer)
+    }
+
+    fn explain(&self, file: &[u8], budget: u32, lent: &mut Lent) -> usize {
+        let Lent {
+            rows,
+            places,
+            record,
+            answer,
+        } = lent;
+        library::explain_into(file, budget, rows, places, record, answer)
+    }
+
+    fn check(&self, file: &[u8], record: &[u8]) -> u32 {
+        library::check(file, record)
+    }
+}
+
+#[derive(Clone, Copy)]
+pub struct Library;
+
+impl Desk for Library {}
+
+/// Wrong desks of the tests: the library but for one call.
+#[cfg(test)]
+pub mod planted {
+    use super::{Desk, Lent};
+
+    #[derive(Clone, Copy)]
+    pub struct Decide<D>(pub D);
+
+    impl<D> Desk for Decide<D>
+    where
+        D: Fn(&[u8], u32, &mut [i32], &mut [i32], &mut [u32]) -> u32,
+    {
+        fn decide(&self, file: &[u8], budget: u32, lent: &mut Lent) -> u32 {
+            (self.0)(file, budget, lent.rows, lent.places, lent.answer)
+        }
+    }
+
+    pub struct Explain<E>(pub E);
+
+    impl<E: Fn(&[u8], u32, &mut Lent) -> usize> Desk for Explain<E> {
+        fn explain(&self, file: &[u8], budget: u32, lent: &mut Lent) -> usize {
+            (self.0)(file, budget, lent)
+        }
+    }
+
+    pub struct Check<C>(pub C);
+
+    impl<C: Fn(&[u8], &[u8]) -> u32> Desk for Check<C> {
+        fn check(&self, file: &[u8], record: &[u8]) -> u32 {
+            (self.0)(file, record)
+        }
+    }
+}
