@@ -1,14 +1,16 @@
 /*
- * The guard desk: whether a guard over message fields can hold at all and, where it can, messages that make it hold.
+ * The guard desk: whether a guard over message fields can hold at all and, where it can, messages that make it hold; where it
+ * cannot, a record of every branch that was tried, and a check of such records.
  *
- * One function, in libdesklink.a (x86-64 Linux). What it gives is proved for every file, budget and buffer length;
+ * Three functions, in libdesklink.a (x86-64 Linux). What they give is proved for every file, budget, record and buffer length;
  * docs/EMBEDDING.md says what rests on what.
  *
- *   - It allocates nothing, keeps nothing between calls and calls nothing but memcpy and memset. Calls in several
+ *   - They allocate nothing, keep nothing between calls and call nothing but memcpy and memset. Calls in several
  *     threads at once are fine, each with its own buffers.
- *   - It always ends. The budget bounds the time: no more nodes than that are searched. At the limits of a guard a node was
- *     measured at 1 to 1.4 microseconds (docs/BENCHMARKS.md).
- *   - It needs 820 KB of stack (812,280 bytes at the most, as docs/EMBEDDING.md counts them).
+ *   - They always end. The budget bounds the time of guarddesk_decide: no more nodes than that are searched. At the limits of a
+ *     guard a node was measured at 1 to 1.4 microseconds (docs/BENCHMARKS.md). guarddesk_explain visits the nodes of a closed search
+ *     once more, guarddesk_check at most those of the record.
+ *   - Each needs 820 KB of stack or less (docs/EMBEDDING.md counts the bytes).
  */
 #ifndef GUARDDESK_H
 #define GUARDDESK_H
@@ -25,7 +27,7 @@ extern "C" {
 #define GUARDDESK_PLACES_LENGTH 24
 #define GUARDDESK_ANSWER_LENGTH 3
 
-/* What the function returns. */
+/* What guarddesk_decide returns. */
 #define GUARDDESK_ANSWERED 0
 #define GUARDDESK_ANSWER_TOO_SHORT 1
 
@@ -34,6 +36,22 @@ extern "C" {
 #define GUARDDESK_SAT 1     /* the guard can hold; answer[1] is the node count, answer[2] the number of rows */
 #define GUARDDESK_UNSAT 2   /* it cannot; answer[1] is the node count */
 #define GUARDDESK_SPENT 3   /* the search takes more nodes than the budget; answer[1] is the budget */
+
+/* What guarddesk_explain returns if the answer buffer is too short. */
+#define GUARDDESK_EXPLAIN_TOO_SHORT SIZE_MAX
+
+/* How many bytes of a record suffice for each node of the node count. */
+#define GUARDDESK_RECORD_BYTES_PER_NODE 3
+
+/* The nodes of a record, by their first number. */
+#define GUARDDESK_EMPTY_LABEL 0      /* a term: no variant is left for it */
+#define GUARDDESK_BROKEN_LINE 1      /* a line "unequal": its two terms are equal */
+#define GUARDDESK_UNLIKE_CONSTANTS 2 /* a term: it is equal to two different numbers */
+#define GUARDDESK_INSIDE_ITSELF 3    /* a term: it would be a part of itself */
+#define GUARDDESK_SPLIT 4            /* a term and a variant: first the branch where it is that variant, then the other */
+
+/* What guarddesk_check returns for a record that shows that the guard cannot hold. */
+#define GUARDDESK_ACCEPTED 0
 
 /*
  * Decides the guard file of file_length bytes within a budget of nodes.
@@ -64,6 +82,47 @@ uint32_t guarddesk_decide(const uint8_t *file, size_t file_length, uint32_t budg
                           int32_t *rows, size_t rows_length,
                           int32_t *places, size_t places_length,
                           uint32_t *answer, size_t answer_length);
+
+/*
+ * Decides as guarddesk_decide, and after UNSAT writes the record of the search, which shows why: all its branches, each
+ * closed for a reason.
+ *
+ * If it returns GUARDDESK_EXPLAIN_TOO_SHORT, answer_length is below 3 and nothing was written. Otherwise it returns the number
+ * of bytes of the record, 0 but after UNSAT; answer, rows and places are as after guarddesk_decide, but for one refusal more:
+ *   11  the guard cannot hold, and its record has more than record_length bytes
+ * 3 bytes for each node suffice: answer[1] of guarddesk_decide after UNSAT, times GUARDDESK_RECORD_BYTES_PER_NODE.
+ *
+ * The record has the nodes in the order of the search, each as two or three numbers, from its root on. A number is written as in a
+ * guard file, seven bits to a byte; terms and lines are below 128, so each number of these records is one byte:
+ *   0 term            no variant is left for the term
+ *   1 line            the two terms of this unequal line are equal
+ *   2 term            the term is equal to two different numbers
+ *   3 term            the term would be a part of itself
+ *   4 term variant    the branch where the term is of this variant, from its first node to its last, then that where it is not
+ * Lines are counted from 0. Terms 0 to 23 are those of the file; 24 + 2 * r and 25 + 2 * r are the other fields of the variant
+ * that term r reads a field of, in order of position; 72 + t is the default of type t.
+ * Bytes behind the record are 0, and all of the buffer is after every other answer.
+ *
+ * The caller owes what guarddesk_decide asks, for five areas.
+ */
+size_t guarddesk_explain(const uint8_t *file, size_t file_length, uint32_t budget,
+                         int32_t *rows, size_t rows_length,
+                         int32_t *places, size_t places_length,
+                         uint8_t *record, size_t record_length,
+                         uint32_t *answer, size_t answer_length);
+
+/*
+ * Checks a record, from wherever it comes, against a guard file. After GUARDDESK_ACCEPTED the file is a guard file and no messages
+ * make its guard hold. Every record that guarddesk_explain writes is accepted, and so are those of searches that split otherwise.
+ * Otherwise it returns the first question that got a no:
+ *    2 to 10  of the file, as for guarddesk_decide
+ *   12        a node is cut short, is none of those listed, or claims what does not hold
+ *   13        the record ends before its last branch is closed, or goes on after it
+ *
+ * record_length is the record's own length, not that of a buffer with zeros behind it. Both areas are only read: each pointer is
+ * not null and points to as many bytes as its length says, and nothing writes them during the call.
+ */
+uint32_t guarddesk_check(const uint8_t *file, size_t file_length, const uint8_t *record, size_t record_length);
 
 #ifdef __cplusplus
 }

@@ -1,6 +1,6 @@
-//! The desk behind one call: the proved library, through the crate `guarddesk`.
+//! The desk behind two calls: the proved library, through the crate `guarddesk`.
 
-use guarddesk::Kind;
+use guarddesk::{Kind, Refutation};
 
 /// A row of a shown message; its parts are rows too.
 #[derive(Clone, Debug, PartialEq, Eq)]
@@ -36,7 +36,17 @@ pub enum Answer {
 
 /// The answer to a guard file within a budget of nodes.
 pub fn decide(file: &[u8], budget: u32) -> Answer {
-    match guarddesk::decide(file, budget) {
+    answer(guarddesk::decide(file, budget))
+}
+
+/// The same, and the branches of a guard that can't hold.
+pub fn explain(file: &[u8], budget: u32) -> (Answer, Option<Refutation>) {
+    let explanation = guarddesk::explain(file, budget);
+    (answer(explanation.answer), explanation.refutation)
+}
+
+fn answer(answer: guarddesk::Answer) -> Answer {
+    match answer {
         guarddesk::Answer::Refused { question } => Answer::Refused(question),
         guarddesk::Answer::Sat { nodes, messages } => Answer::Sat {
             nodes,

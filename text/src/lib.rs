@@ -3,14 +3,15 @@
 
 #![warn(missing_debug_implementations, unreachable_pub)]
 
+pub mod branches;
 pub mod check;
 pub mod decode;
 pub mod desk;
 pub mod encode;
-pub mod explain;
 pub mod guard;
 pub mod lex;
 pub mod parse;
+pub mod refusals;
 pub mod show;
 pub mod types;
 pub mod write;

@@ -5,17 +5,19 @@ use std::fs;
 use std::io::{self, Read, Write};
 use std::process::ExitCode;
 
+use guardtext::branches::branches;
 use guardtext::check::Source;
 use guardtext::decode::decode;
-use guardtext::desk::{decide, Answer};
+use guardtext::desk::{decide, explain, Answer};
 use guardtext::encode::{encode, hex};
 use guardtext::show::show;
 use guardtext::write::write;
 
 const USAGE: &str = "\
-usage: guardtext decide FILE [--budget N]  the desk's answer to a text
-       guardtext encode FILE [--hex]       the guard file of a text
-       guardtext text FILE                 the text of a guard file or its hex
+usage: guardtext decide FILE [--budget N]   the desk's answer to a text
+       guardtext explain FILE [--budget N]  the same, with all branches after UNSAT
+       guardtext encode FILE [--hex]        the guard file of a text
+       guardtext text FILE                  the text of a guard file or its hex
 FILE may be - for standard input. N is 1000000 if not given.";
 
 /// Why the program fails.
@@ -69,7 +71,7 @@ fn run(words: &[String]) -> Result<(), Failure> {
     while let Some(word) = words.next() {
         match (word.as_str(), command.as_str()) {
             ("--hex", "encode") => options.hex = true,
-            ("--budget", "decide") => {
+            ("--budget", "decide" | "explain") => {
                 let budget = words.next().and_then(|word| word.parse().ok());
                 let most = u32::MAX;
                 let why = format!("--budget needs a number from 0 to {most}");
@@ -86,6 +88,7 @@ fn run(words: &[String]) -> Result<(), Failure> {
     }
     match command.as_str() {
         "decide" => decide_command(&options),
+        "explain" => explain_command(&options),
         "encode" => encode_command(&options),
         "text" => text_command(&options),
         other => Err(unclear(&format!("there is no command {other}"))),
@@ -119,6 +122,21 @@ fn decide_command(options: &Options) -> Result<(), Failure> {
     let file = encode(&source.guard);
     let answer = decide(&file.bytes, options.budget);
     let shown = show(&source, &file, &answer).map_err(Failure::Use)?;
+    print_answer(&answer, &shown)
+}
+
+fn explain_command(options: &Options) -> Result<(), Failure> {
+    let source = source(&options.file)?;
+    let file = encode(&source.guard);
+    let (answer, refutation) = explain(&file.bytes, options.budget);
+    let mut shown = show(&source, &file, &answer).map_err(Failure::Use)?;
+    if let Some(refutation) = refutation {
+        shown += &branches(&source, &refutation).map_err(Failure::Use)?;
+    }
+    print_answer(&answer, &shown)
+}
+
+fn print_answer(answer: &Answer, shown: &str) -> Result<(), Failure> {
     print(shown.as_bytes())?;
     match answer {
         Answer::Refused(_) => Err(Failure::Refused),

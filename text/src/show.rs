@@ -6,8 +6,8 @@ use std::fmt::Write;
 use crate::check::Source;
 use crate::desk::{Answer, Message};
 use crate::encode::Encoded;
-use crate::explain::explain;
 use crate::guard::{Guard, Names};
+use crate::refusals::explain;
 
 /// Up to so many parts in all, messages are printed in full; beyond, parts that occur in
 /// more than one place are printed once, with a name.

@@ -68,7 +68,7 @@ pub fn write(guard: &Guard) -> String {
     lines.iter().map(|line| format!("{line}\n")).collect()
 }
 
-fn applied(name: &str, parts: &[String]) -> String {
+pub(crate) fn applied(name: &str, parts: &[String]) -> String {
     match parts.is_empty() {
         true => name.to_string(),
         false => format!("{name}({})", parts.join(", ")),

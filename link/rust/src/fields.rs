@@ -1,24 +1,13 @@
 //! What a row does not say of itself: how many fields each variant has, and how many terms there are. Read from the types
 //! and the number of terms of a file that the library has accepted.
 
+use crate::numbers::number;
+
 /// The field counts of the variants of each type, and the number of terms.
 #[derive(Debug, PartialEq, Eq)]
 pub struct Fields {
     pub types: Vec<Vec<usize>>,
     pub terms: usize,
-}
-
-/// A number at the front of the bytes: seven bits to a byte, low group first.
-fn number(bytes: &mut std::slice::Iter<'_, u8>) -> Option<usize> {
-    let mut value = 0;
-    for shift in [0, 7, 14, 21, 28] {
-        let byte = *bytes.next()?;
-        value |= (byte as usize & 0x7f) << shift;
-        if byte < 0x80 {
-            return Some(value);
-        }
-    }
-    None
 }
 
 /// The field counts and the number of terms of an accepted file; of other bytes perhaps nothing.

@@ -1,9 +1,9 @@
 //! The guard desk for Rust programs: whether a guard over message fields can hold at all and, where it can, messages that
 //! make it hold.
 //!
-//! [`decide`] is a safe function over the proved library `libdesklink.a`. What that library gives is proved for every file
-//! and budget; what this crate makes of it (types, text) is tested. A guard file is at most 465 bytes long; its format is
-//! that of document 01.
+//! [`decide`], [`explain`] and [`check`] are safe functions over the proved library `libdesklink.a`. What that library gives is
+//! proved for every file, budget and record; what this crate makes of it (types, text) is tested. A guard file is at most 465
+//! bytes long; its format is that of document 01.
 //!
 //! ```
 //! use guarddesk::{decide, Answer, Names};
@@ -16,13 +16,18 @@
 //! assert!(x.with_names(&names).to_string().starts_with("cons("));
 //! ```
 //!
+//! [`explain`] has the branches of a guard that cannot hold, and [`check`] takes their record.
+//!
 //! A call needs 820 KB of stack: the main thread and threads that [`std::thread::spawn`] makes by default have more.
 
 mod fields;
 mod messages;
+mod numbers;
 pub mod raw;
+mod refutations;
 
 pub use messages::{Kind, Message, Messages, Named, Names, Parts};
+pub use refutations::{check, Branch, Question, Reason, Refutation, Term};
 
 use std::fmt;
 
@@ -71,6 +76,57 @@ pub fn decide(file: &[u8], budget: u32) -> Answer {
         (raw::ANSWERED, [raw::SPENT, budget, _]) => Answer::Spent { budget },
         _ => unreachable!("the library's contract has no such answer: code {code}, {answer:?}"),
     }
+}
+
+/// The answer to a guard file, and why a guard cannot hold.
+#[derive(Clone, Debug, PartialEq, Eq)]
+pub struct Explanation {
+    /// The answer of [`decide`].
+    pub answer: Answer,
+    /// After [`Answer::Unsat`] and only then: the branches of the search.
+    pub refutation: Option<Refutation>,
+}
+
+/// Decides a guard file as [`decide`] does and, if the guard cannot hold, has the branches that show it. Then the search runs a
+/// second and a third time, for the record.
+///
+/// ```
+/// use guarddesk::{check, explain, Branch, Reason, Term};
+///
+/// // Numbers, and lists of them: nil or cons. A list x that is nil and is cons.
+/// let file = [2, 0, 2, 0, 2, 0, 1, 1, 0, 1, 2, 2, 0, 0, 2, 0, 1];
+/// let refutation = explain(&file, 1000).refutation.expect("UNSAT");
+/// assert_eq!(refutation.tree(), Branch::Closed(Reason::NoVariant(Term::Row(0))));
+/// assert!(check(&file, refutation.bytes()).is_ok());
+/// ```
+pub fn explain(file: &[u8], budget: u32) -> Explanation {
+    let answer = decide(file, budget);
+    let refutation = match answer {
+        Answer::Unsat { nodes } => Some(refutation(file, nodes)),
+        _ => None,
+    };
+    Explanation { answer, refutation }
+}
+
+/// The branches of a guard that cannot hold, and whose search has so many nodes.
+fn refutation(file: &[u8], nodes: u32) -> Refutation {
+    let mut rows = vec![0; raw::ROWS_LENGTH];
+    let mut places = [0; raw::PLACES_LENGTH];
+    let mut record = vec![0; raw::RECORD_BYTES_PER_NODE * nodes as usize];
+    let mut answer = [0; raw::ANSWER_LENGTH];
+    let many = raw::explain_into(
+        file,
+        nodes,
+        &mut rows,
+        &mut places,
+        &mut record,
+        &mut answer,
+    );
+    match (many, answer) {
+        (Some(many), [raw::UNSAT, ..]) => record.truncate(many),
+        _ => unreachable!("the library's contract has no such answer: {many:?}, {answer:?}"),
+    }
+    Refutation::new(record)
 }
 
 impl fmt::Display for Answer {

@@ -1,5 +1,6 @@
-//! The library's one function over the caller's own buffers, for programs that keep buffers between calls or look at every
-//! number of them. The only unsafe code of the crate. [`decide`](crate::decide) is easier to use.
+//! The library's three functions over the caller's own buffers, for programs that keep buffers between calls or look at every
+//! number of them. The only unsafe code of the crate. [`decide`](crate::decide), [`explain`](crate::explain) and
+//! [`check`](crate::check) are easier to use.
 //!
 //! ```
 //! use guarddesk::raw::{decide_into, ANSWERED, ANSWER_LENGTH, PLACES_LENGTH, ROWS_LENGTH, SAT};
@@ -18,11 +19,15 @@ pub const ROWS_LENGTH: usize = 16384;
 pub const PLACES_LENGTH: usize = 24;
 /// How many numbers the answer has.
 pub const ANSWER_LENGTH: usize = 3;
+/// How many bytes of a record suffice for each node of the node count.
+pub const RECORD_BYTES_PER_NODE: usize = 3;
 
 /// The call was answered.
 pub const ANSWERED: u32 = 0;
 /// The answer buffer is too short; nothing was written.
 pub const ANSWER_TOO_SHORT: u32 = 1;
+/// The record shows that the guard cannot hold.
+pub const ACCEPTED: u32 = 0;
 
 /// The verdict on what is no guard file, or on short buffers; the answer's second number is the question that got a no.
 pub const REFUSED: u32 = 0;
@@ -45,6 +50,27 @@ extern "C" {
         places_length: usize,
         answer: *mut u32,
         answer_length: usize,
+    ) -> u32;
+
+    fn guarddesk_explain(
+        file: *const u8,
+        file_length: usize,
+        budget: u32,
+        rows: *mut i32,
+        rows_length: usize,
+        places: *mut i32,
+        places_length: usize,
+        record: *mut u8,
+        record_length: usize,
+        answer: *mut u32,
+        answer_length: usize,
+    ) -> usize;
+
+    fn guarddesk_check(
+        file: *const u8,
+        file_length: usize,
+        record: *const u8,
+        record_length: usize,
     ) -> u32;
 }
 
@@ -80,11 +106,57 @@ pub fn decide_into(
     }
 }
 
+/// Decides as [`decide_into`], and after [`UNSAT`] writes the record of the search in front of `record`. Buffers of any length
+/// are safe.
+///
+/// Nothing says that `answer` has fewer than three numbers; then nothing is written. Otherwise it is the number of bytes of the
+/// record, 0 but after [`UNSAT`], and bytes behind the record are zero. [`RECORD_BYTES_PER_NODE`] times the node count suffice; a
+/// record that doesn't fit is [`REFUSED`], question 11, with all three buffers zero. `link/guarddesk.h` has a record's numbers.
+#[allow(unsafe_code)]
+pub fn explain_into(
+    file: &[u8],
+    budget: u32,
+    rows: &mut [i32],
+    places: &mut [i32],
+    record: &mut [u8],
+    answer: &mut [u32],
+) -> Option<usize> {
+    // SAFETY: as in `decide_into`; four are written, all borrowed mutably.
+    let many = unsafe {
+        guarddesk_explain(
+            file.as_ptr(),
+            file.len(),
+            budget,
+            rows.as_mut_ptr(),
+            rows.len(),
+            places.as_mut_ptr(),
+            places.len(),
+            record.as_mut_ptr(),
+            record.len(),
+            answer.as_mut_ptr(),
+            answer.len(),
+        )
+    };
+    (many != usize::MAX).then_some(many)
+}
+
+/// Checks a record against a guard file: [`ACCEPTED`], or the first question that got a no, 2 to 10 of the file, 12 or 13 of the
+/// record.
+#[allow(unsafe_code)]
+pub fn check(file: &[u8], record: &[u8]) -> u32 {
+    // SAFETY: each pointer and length is that of a slice that nobody writes meanwhile. The function has no other condition, keeps
+    // no pointer and does not unwind.
+    unsafe { guarddesk_check(file.as_ptr(), file.len(), record.as_ptr(), record.len()) }
+}
+
 #[cfg(test)]
 mod tests {
     use super::*;
 
     const NO_GUARD: &[u8] = &[0, 0, 0];
+    // A number -3 that equals 4: UNSAT, one node.
+    const DEAD: &[u8] = &[1, 0, 2, 1, 0, 5, 1, 0, 8, 1, 0, 0, 1];
+    const DEAD_RECORD: [u8; 2] = [2, 0];
 
     #[test]
     fn short_buffers_are_question_1_and_cleared() {
@@ -125,5 +197,43 @@ mod tests {
         let (mut rows, mut places, mut answer) = ([7; ROWS_LENGTH], [7; PLACES_LENGTH], [7; 5]);
         let code = decide_into(NO_GUARD, 1, &mut rows, &mut places, &mut answer);
         assert_eq!((code, answer), (ANSWERED, [SAT, 1, 0, 7, 7]));
+    }
+
+    /// What `explain_into` returns for the dead guard, and the three buffers that it had been lent full of sevens.
+    fn explained(record: usize, answer: usize) -> (Option<usize>, Vec<i32>, Vec<u8>, Vec<u32>) {
+        let (mut rows, mut places) = (vec![7; ROWS_LENGTH], [7; PLACES_LENGTH]);
+        let (mut record, mut answer) = (vec![7; record], vec![7; answer]);
+        let many = explain_into(DEAD, 1, &mut rows, &mut places, &mut record, &mut answer);
+        rows.extend(places);
+        (many, rows, record, answer)
+    }
+
+    #[test]
+    fn a_record_has_zeros_behind_it() {
+        let (many, shown, record, answer) = explained(5, 4);
+        assert_eq!((many, &answer[..]), (Some(2), &[UNSAT, 1, 0, 7][..]));
+        assert_eq!(record, [2, 0, 0, 0, 0]);
+        assert!(shown.iter().all(|&n| n == 0));
+        assert_eq!(check(DEAD, &DEAD_RECORD), ACCEPTED);
+        assert_eq!(check(DEAD, &record), 13);
+    }
+
+    #[test]
+    fn a_record_that_does_not_fit_is_question_11() {
+        for room in 0..DEAD_RECORD.len() {
+            let (many, shown, record, answer) = explained(room, 3);
+            assert_eq!((many, &answer[..]), (Some(0), &[REFUSED, 11, 0][..]));
+            assert!(shown.iter().all(|&n| n == 0) && record.iter().all(|&n| n == 0));
+        }
+    }
+
+    #[test]
+    fn no_record_in_too_short_an_answer_buffer() {
+        for many in 0..ANSWER_LENGTH {
+            let (many, shown, record, answer) = explained(5, many);
+            assert_eq!(many, None);
+            assert!(shown.iter().all(|&n| n == 7) && record.iter().all(|&n| n == 7));
+            assert!(answer.iter().all(|&n| n == 7));
+        }
     }
 }

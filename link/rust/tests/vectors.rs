@@ -1,7 +1,8 @@
-//! All vectors of the repository through the library: the verdict and its number are those of the outside solver.
-use guarddesk::decide;
+//! All vectors of the repository through the library: verdicts and their numbers, and what the checker says of records, are those
+//! of the outside solver; and the records that the library writes are accepted.
+use guarddesk::{check, decide, explain, Answer, Branch, Question};
 
-const VECTORS: &str = concat!(env!("CARGO_MANIFEST_DIR"), "/../../vectors/vectors.txt");
+const VECTORS: &str = concat!(env!("CARGO_MANIFEST_DIR"), "/../../vectors");
 
 fn bytes(hex: &str) -> Vec<u8> {
     let digits = if hex == "-" { "" } else { hex };
@@ -11,25 +12,73 @@ fn bytes(hex: &str) -> Vec<u8> {
         .collect()
 }
 
+/// Calls `each` with the four columns of each line; there are more lines than `many`.
+fn for_each_line(file: &str, many: usize, each: impl Fn([&str; 4])) {
+    let text = std::fs::read_to_string(format!("{VECTORS}/{file}")).unwrap();
+    let lines = text.lines().filter(|line| !line.starts_with('#'));
+    let columns = lines.map(|line| line.split('\t').collect::<Vec<_>>().try_into().expect(line));
+    assert!(columns.map(each).count() > many, "{file}");
+}
+
 fn decide_all() {
-    let text = std::fs::read_to_string(VECTORS).unwrap();
-    let mut many = 0;
-    for line in text.lines().filter(|line| !line.starts_with('#')) {
-        let [name, budget, hex, expected] = line.split('\t').collect::<Vec<_>>()[..] else {
-            panic!("{line}")
-        };
+    for_each_line("vectors.txt", 2000, |[name, budget, hex, expected]| {
         let answer = decide(&bytes(hex), budget.parse().unwrap()).to_string();
         assert_eq!(answer.lines().next(), Some(expected), "{name}");
-        many += 1;
+    });
+}
+
+fn nodes(branch: &Branch) -> u32 {
+    match branch {
+        Branch::Closed(_) => 1,
+        Branch::Split { is, isnt, .. } => 1 + nodes(is) + nodes(isnt),
     }
-    assert!(many > 2000, "{many} vectors");
+}
+
+fn explain_all() {
+    for_each_line("vectors.txt", 2000, |[name, budget, hex, _]| {
+        let (file, budget) = (bytes(hex), budget.parse().unwrap());
+        let explanation = explain(&file, budget);
+        assert_eq!(explanation.answer, decide(&file, budget), "{name}");
+        match (explanation.answer, explanation.refutation) {
+            (Answer::Unsat { nodes: many }, Some(refutation)) => {
+                assert_eq!(nodes(&refutation.tree()), many, "{name}");
+                assert_eq!(check(&file, refutation.bytes()), Ok(()), "{name}");
+            }
+            (Answer::Unsat { .. }, None) | (_, Some(_)) => panic!("{name}"),
+            (_, None) => {}
+        }
+    });
+}
+
+fn check_all() {
+    for_each_line("records.txt", 1000, |[name, file, record, expected]| {
+        let expected = match expected.parse().unwrap() {
+            0 => Ok(()),
+            question => Err(Question(question)),
+        };
+        assert_eq!(check(&bytes(file), &bytes(record)), expected, "{name}");
+    });
 }
 
 /// In a thread with the stack that the crate's documentation asks for.
+fn in_the_stack_asked_for(run: fn()) {
+    let thread = std::thread::Builder::new().stack_size(820 * 1024);
+    thread.spawn(run).unwrap().join().unwrap();
+}
+
 #[test]
 fn answers_of_all_vectors() {
-    let thread = std::thread::Builder::new().stack_size(820 * 1024);
-    thread.spawn(decide_all).unwrap().join().unwrap();
+    in_the_stack_asked_for(decide_all);
+}
+
+#[test]
+fn records_of_all_vectors() {
+    in_the_stack_asked_for(explain_all);
+}
+
+#[test]
+fn the_checkers_answers() {
+    in_the_stack_asked_for(check_all);
 }
 
 #[test]
