@@ -17,7 +17,8 @@ use Rattle.guard.specs.Shown.{Shows}
 use Rattle.guard.specs.declared.Answer.{Answer}
 use Rattle.guard.specs.declared.Answer.the-variants.{Refused, Sat, Unsat, Spent}
 use Rattle.decide.proofs.Corollaries.{spent-below-count}
-use Rattle.desklink.specs.Links.{Answers, answerNumbers}
+use Rattle.answernumbers.specs.Numbers.{answerNumbers}
+use Rattle.desklink.specs.Links.{Answers}
 
 -- ---- the answer, from its first number
 

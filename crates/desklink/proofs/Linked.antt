@@ -10,7 +10,8 @@ use Rattle.guard.specs.declared.Answer.{Answer}
 use Rattle.decide.specs.Decides.{Decides}
 use Rattle.explain.specs.Explains.{Explains}
 use Rattle.explain.specs.declared.Explained.{Explained}
-use Rattle.desklink.specs.Links.{Links, LinksExplained, answerNumbers}
+use Rattle.answernumbers.specs.Numbers.{answerNumbers}
+use Rattle.desklink.specs.Links.{Links, LinksExplained}
 
 pub too-short : (bytes : List ℕ) (budget : ℕ) (rows places : List ℤ) (numbers : List ℕ) → length numbers < 3 → Links base bytes budget rows places numbers 1 rows places numbers
 too-short bytes budget rows places numbers h = record { short = λ _. (refl, (refl, (refl, refl))); enough = λ l. absurd (omega (arith, h, l)) }

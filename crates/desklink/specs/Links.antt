@@ -1,27 +1,15 @@
 -- What a program in another language is given by its calls: the answer as three numbers, and a return code or the length of a record. Assumes nothing:
 -- definitions.
 use mathlib.Core.Path.{_≡_}
-use mathlib.Core.List.{List, [], _∷_, _++_}
+use mathlib.Core.List.{List, _++_}
 use Prim.Native.Nat.{ℕ, _-_, _^_, _≤_, _<_}
 use lib.IntN.{ℤ}
 use lib.ListN.{length, drop}
 use Rattle.guard.specs.Limits.{Limits}
 use Rattle.guard.specs.declared.Answer.{Answer}
-use Rattle.guard.specs.declared.Answer.the-variants.{Refused, Sat, Unsat, Spent}
+use Rattle.answernumbers.specs.Numbers.{answerLength, answerNumbers}
 use Rattle.decide.specs.Decides.{Decides}
 use Rattle.explain.specs.Explains.{Explains}
-
--- the numbers of an answer: its verdict (0 REFUSED, 1 SAT, 2 UNSAT, 3 SPENT); the question that got a no, the node count
--- or the budget; and how many rows are shown, none but after SAT
-unfoldable pub answerNumbers : Answer → List ℕ
-answerNumbers (Refused q) = 0 ∷ q ∷ 0 ∷ []
-answerNumbers (Sat n r) = 1 ∷ n ∷ r ∷ []
-answerNumbers (Unsat n) = 2 ∷ n ∷ 0 ∷ []
-answerNumbers (Spent b) = 3 ∷ b ∷ 0 ∷ []
-
--- how many numbers an answer has
-abbrev pub answerLength : ℕ
-answerLength = 3
 
 -- return codes: the call was answered; the answer buffer is too short
 abbrev pub answeredCode : ℕ

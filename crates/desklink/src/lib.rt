@@ -1,37 +1,10 @@
 // The desk's calls for programs in other languages, numbers and slices only; a slice is a pointer and a length there.
 // `specs/Links.antt` says what it gives, link/guarddesk.h declares it for C, link/rust wraps it for Rust.
-use guard::Answer;
 ghost use mathlib.Core.Path.{_≡_};
-ghost use mathlib.Core.List.{_∷_, _++_};
-ghost use Prim.Native.Nat.{_≤_};
-ghost use lib.ListN.{length, drop};
 ghost use Rattle.guard.specs.Limits.{base};
 ghost use Rattle.refutations.specs.Checker.{checked};
 ghost use Rattle.recordchecker.specs.Checks.{answer};
-ghost use Rattle.desklink.specs.Links.{Links, LinksExplained, answerNumbers};
-
-// Three numbers in front of the buffer.
-fn put(numbers: &mut [u32], verdict: u32, number: u32, rows: u32)
-    requires { ⌜ 3 ≤ length (now numbers) ⌝ }
-    ensures { λ _. ⌜ now (numbers .exit) ≡ verdict ∷ number ∷ rows ∷ drop 3 (now (numbers .entry)) ⌝ }
-{
-    numbers[0] = verdict;
-    numbers[1] = number;
-    numbers[2] = rows;
-}
-
-// The numbers of an answer in front of the buffer.
-fn put_answer(numbers: &mut [u32], answer: Answer)
-    requires { ⌜ 3 ≤ length (now numbers) ⌝ }
-    ensures { λ _. ⌜ now (numbers .exit) ≡ answerNumbers answer ++ drop 3 (now (numbers .entry)) ⌝ }
-{
-    match answer {
-        Answer::Refused { question } => put(numbers, 0, question, 0),
-        Answer::Sat { nodes, rows } => put(numbers, 1, nodes, rows),
-        Answer::Unsat { nodes } => put(numbers, 2, nodes, 0),
-        Answer::Spent { budget } => put(numbers, 3, budget, 0),
-    }
-}
+ghost use Rattle.desklink.specs.Links.{Links, LinksExplained};
 
 // The answer to a guard file within a budget of nodes, as three numbers in `numbers`; the rest as `decide` has it. Returns
 // 0, or 1 if `numbers` is too short for an answer; then nothing is written.
@@ -49,7 +22,7 @@ pub extern "C" fn guarddesk_decide(
         return 1;
     }
     let answer = decide::decide(file, budget, rows, places);
-    put_answer(numbers, answer);
+    answernumbers::put_answer(numbers, answer);
     0
 }
 
@@ -71,7 +44,7 @@ pub extern "C" fn guarddesk_explain(
     }
     let e = explain::explain(file, budget, rows, places, record);
     let answer = e.answer;
-    put_answer(numbers, answer);
+    answernumbers::put_answer(numbers, answer);
     e.bytes
 }
 

@@ -2,9 +2,9 @@
 use native.Mathlib.Omega.{arith}
 use lib.ListN.{length-set}
 use borrow.Author.Needs.{needs}
-use Rattle.desklink.proofs.Numbers.{three-sets}
-use Rattle.desklink.proofs.put.Statement.{statement}
-use Rattle.desklink.proofs.put.Tie as tie
+use Rattle.answernumbers.proofs.NumberLaws.{three-sets}
+use Rattle.answernumbers.proofs.put.Statement.{statement}
+use Rattle.answernumbers.proofs.put.Tie as tie
 
 slice-write-numbers : tie.Need-slice-write-numbers
 slice-write-numbers c = search needs

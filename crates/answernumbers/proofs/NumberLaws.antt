@@ -7,7 +7,7 @@ use native.Mathlib.Omega.{arith}
 use lib.ListN.{length, drop, set}
 use Rattle.guard.specs.declared.Answer.{Answer}
 use Rattle.guard.specs.declared.Answer.the-variants.{Refused, Sat, Unsat, Spent}
-use Rattle.desklink.specs.Links.{answerNumbers}
+use Rattle.answernumbers.specs.Numbers.{answerNumbers}
 
 pub three-sets : (xs : List ℕ) (a b k : ℕ) → 3 ≤ length xs → set (set (set xs 0 a) 1 b) 2 k ≡ a ∷ b ∷ k ∷ drop 3 xs
 three-sets [] a b k h = absurd (omega (arith, h))

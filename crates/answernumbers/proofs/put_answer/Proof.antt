@@ -1,10 +1,10 @@
 -- `put_answer`: what is matched is the answer, so its numbers are put. Assumes nothing.
 use lib.ListN.{drop}
 use borrow.Author.Needs.{needs}
-use Rattle.desklink.specs.Links.{answerNumbers}
-use Rattle.desklink.proofs.Numbers.{of-answer}
-use Rattle.desklink.proofs.put_answer.Statement.{statement}
-use Rattle.desklink.proofs.put_answer.Tie as tie
+use Rattle.answernumbers.specs.Numbers.{answerNumbers}
+use Rattle.answernumbers.proofs.NumberLaws.{of-answer}
+use Rattle.answernumbers.proofs.put_answer.Statement.{statement}
+use Rattle.answernumbers.proofs.put_answer.Tie as tie
 
 enum-known-answer : tie.Need-enum-known-answer
 enum-known-answer c = search needs
