@@ -1,7 +1,9 @@
-//! The test vectors: every file is taken or refused as expected, and every accepted one
-//! comes back from its text.
+//! The test vectors: every file is taken or refused as expected, every accepted one comes
+//! back from its text, and every dead one has a line for each node.
 
+use guardtext::branches::branches;
 use guardtext::decode::{decode, from_hex};
+use guardtext::desk::{explain, Answer};
 use guardtext::encode::{encode, hex};
 use guardtext::write::write;
 
@@ -9,7 +11,7 @@ use guardtext::write::write;
 fn files_come_back_from_their_texts() {
     let path = concat!(env!("CARGO_MANIFEST_DIR"), "/../vectors/vectors.txt");
     let vectors = std::fs::read_to_string(path).expect("the vectors");
-    let (mut taken, mut refused) = (0, 0);
+    let (mut taken, mut refused, mut dead) = (0, 0, 0);
     for vector in vectors.lines().filter(|line| !line.starts_with('#')) {
         let columns: Vec<&str> = vector.split('\t').collect();
         let [name, _, digits, answer] = columns[..] else {
@@ -35,10 +37,16 @@ fn files_come_back_from_their_texts() {
                 assert_eq!(source.names.terms.len(), guard.rows.len(), "{name}");
                 assert_eq!(hex(&encode(&source.guard).bytes), digits, "{name}");
                 taken += 1;
+                if let (Answer::Unsat { nodes }, Some(refutation)) = explain(&file, 1000) {
+                    let lines = branches(&source, &refutation).expect(name);
+                    assert_eq!(lines.lines().count(), nodes as usize, "{name}");
+                    dead += 1;
+                }
             }
         }
     }
     assert!(taken > 1_000 && refused > 500, "{taken} and {refused}");
+    assert!(dead > 500, "{dead} dead ones");
 }
 
 #[test]

@@ -1,5 +1,5 @@
-//! All vectors of the repository through the library: verdicts and their numbers, and what the checker says of records, are those
-//! of the outside solver; and the records that the library writes are accepted.
+//! All vectors of the repository through the library: verdicts and their numbers, records, and what the checker says of others are
+//! those of the outside solver; and the records that the library writes are accepted.
 use guarddesk::{check, decide, explain, Answer, Branch, Question};
 
 const VECTORS: &str = concat!(env!("CARGO_MANIFEST_DIR"), "/../../vectors");
@@ -56,7 +56,12 @@ fn check_all() {
             0 => Ok(()),
             question => Err(Question(question)),
         };
-        assert_eq!(check(&bytes(file), &bytes(record)), expected, "{name}");
+        let (file, record) = (bytes(file), bytes(record));
+        assert_eq!(check(&file, &record), expected, "{name}");
+        if name.starts_with("written-") {
+            let written = explain(&file, u32::MAX).refutation.expect(name);
+            assert_eq!(written.bytes(), record, "{name}");
+        }
     });
 }
 

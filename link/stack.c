@@ -1,0 +1,98 @@
+/*
+ * stack HEX BUDGET: how much stack each call takes on a guard file, given in hexadecimal. Each runs in a thread of its own on a
+ * painted stack, and the thread's own share is in the numbers. Link with -pthread -Wl,-z,now, so that no call looks for memcpy.
+ */
+#include "guarddesk.h"
+#include <pthread.h>
+#include <stdio.h>
+#include <stdlib.h>
+#include <string.h>
+
+enum { STACK = 1 << 21, PAINT = 0xa5, LEVELS = 2048 };
+
+static uint8_t file[512], *record;
+static size_t file_length, record_room, record_length;
+static uint32_t budget, answer[GUARDDESK_ANSWER_LENGTH], question;
+static int32_t rows[GUARDDESK_ROWS_LENGTH], places[GUARDDESK_PLACES_LENGTH];
+
+static void *decide(void *nothing)
+{
+    guarddesk_decide(file, file_length, budget, rows, GUARDDESK_ROWS_LENGTH, places, GUARDDESK_PLACES_LENGTH,
+                     answer, GUARDDESK_ANSWER_LENGTH);
+    return nothing;
+}
+
+static void *explain(void *nothing)
+{
+    record_length = guarddesk_explain(file, file_length, budget, rows, GUARDDESK_ROWS_LENGTH, places, GUARDDESK_PLACES_LENGTH,
+                                      record, record_room, answer, GUARDDESK_ANSWER_LENGTH);
+    return nothing;
+}
+
+static void *check(void *nothing)
+{
+    question = guarddesk_check(file, file_length, record, record_length);
+    return nothing;
+}
+
+/* Runs a call and returns the bytes of its stack that were written. */
+static size_t used(void *(*call)(void *))
+{
+    pthread_attr_t attributes;
+    pthread_t thread;
+    unsigned char *stack;
+    size_t clean = 0;
+    if (posix_memalign((void **)&stack, 4096, STACK) != 0)
+        exit(2);
+    memset(stack, PAINT, STACK);
+    if (pthread_attr_init(&attributes) != 0 || pthread_attr_setstack(&attributes, stack, STACK) != 0 ||
+        pthread_create(&thread, &attributes, call, NULL) != 0 || pthread_join(thread, NULL) != 0)
+        exit(2);
+    while (clean < STACK && stack[clean] == PAINT)
+        clean++;
+    free(stack);
+    return STACK - clean;
+}
+
+/* How many nodes lie on the longest path of the record. */
+static size_t levels(void)
+{
+    static size_t pending[LEVELS];
+    size_t many = 1, most = 0;
+    pending[0] = 1;
+    for (size_t at = 0; at < record_length;) {
+        const size_t level = pending[--many];
+        most = level > most ? level : most;
+        if (record[at] == GUARDDESK_SPLIT) {
+            pending[many++] = level + 1;
+            pending[many++] = level + 1;
+        }
+        at += record[at] == GUARDDESK_SPLIT ? 3 : 2;
+    }
+    return most;
+}
+
+int main(int many, char **words)
+{
+    unsigned byte;
+    if (many != 3)
+        return 2;
+    for (const char *hex = words[1]; file_length < sizeof file && sscanf(hex, "%2x", &byte) == 1; hex += 2)
+        file[file_length++] = (uint8_t)byte;
+    budget = (uint32_t)strtoul(words[2], NULL, 10);
+
+    const size_t decided = used(decide);
+    printf("decide %zu bytes: verdict %u, %u\n", decided, (unsigned)answer[0], (unsigned)answer[1]);
+    if (answer[0] != GUARDDESK_UNSAT)
+        return 0;
+    record_room = GUARDDESK_RECORD_BYTES_PER_NODE * (size_t)answer[1];
+    record = malloc(record_room);
+    if (record == NULL)
+        return 2;
+    const size_t explained = used(explain);
+    printf("explain %zu bytes: %zu levels, a record of %zu bytes\n", explained, levels(), record_length);
+    const size_t checked = used(check);
+    printf("check %zu bytes: %u\n", checked, (unsigned)question);
+    free(record);
+    return (int)question;
+}
