@@ -98,6 +98,13 @@ mod tests {
     }
 
     #[test]
+    fn noise_in_bytes_has_no_0() {
+        let mut random = Random::new(1);
+        let mut buffer = Buffer::new(&mut random, 10_000, |n| n as u8);
+        assert!(!buffer.lend(&mut random, 10_000).contains(&0));
+    }
+
+    #[test]
     fn a_change_from_some_number_on_is_seen() {
         let mut buffer = lent(5);
         buffer.all[MARGIN + 2] = 0;

@@ -193,7 +193,7 @@ fn compare_lines(path: &str) -> ExitCode {
             ExitCode::SUCCESS
         }
         Err(why) => {
-            println!("{why}");
+            println!("{}", why.trim_end());
             ExitCode::FAILURE
         }
     }
