@@ -332,6 +332,10 @@ module _ (sorts fieldless : List ℕ) (s : State) (seen : List ℕ) (x : ℕ) wh
   pub fit-end : (v : ℕ) → SeenFit sorts seen x v → SeenFit sorts seen (x + 1) 0
   fit-end v f = record { long = f .long; at = λ w n. (⊎-elim (λ h. inl (omega arith)) (λ p. inl (omega (arith, p .0))) (f .at w n .0), f .at w n .1) }
 
+pub same-change : (b : Bool) → ((b ≡ true) × (b ≡ true)) ⊎ ((b ≡ false) × (b ≡ false))
+same-change true = inl (refl, refl)
+same-change false = inr (refl, refl)
+
 -- a term that is never of a variant alone has nothing to do
 module _ (sorts fieldless : List ℕ) (s : State) (seen : List ℕ) (x : ℕ) where
   pub passed-over : NeverAlone sorts fieldless s x → Advance sorts fieldless s seen x 0 s seen (x + 1) 0 false

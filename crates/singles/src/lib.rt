@@ -77,14 +77,13 @@ fn enter_term(
     if labels::size(label) > 1 {
         return false;
     }
-    let mut v = labels::lowest(label);
-    let mut end = v + 1;
-    if v == 16 {
-        v = 0;
-        end = 16;
+    let lowest = labels::lowest(label);
+    if lowest < 16 {
+        return enter(classes, labels, sorts, fieldless, seen, x, lowest);
     }
     let mut changed = false;
-    while v < end {
+    let mut v: u32 = 0;
+    while v < 16 {
         if enter(classes, labels, sorts, fieldless, seen, x, v) {
             changed = true;
         }
