@@ -8,7 +8,7 @@
  *   - They allocate nothing, keep nothing between calls and call nothing but memcpy and memset. Calls in several
  *     threads at once are fine, each with its own buffers.
  *   - They always end. The budget bounds the time of guarddesk_decide: no more nodes than that are searched. At the limits of a
- *     guard a node was measured at 1 to 1.4 microseconds (docs/BENCHMARKS.md). guarddesk_explain visits the nodes of a closed search
+ *     guard a node was measured at 1 to 1.8 microseconds (docs/BENCHMARKS.md). guarddesk_explain visits the nodes of a closed search
  *     once more, guarddesk_check at most those of the record.
  *   - Each needs 820 KB of stack or less (docs/EMBEDDING.md counts the bytes).
  */
