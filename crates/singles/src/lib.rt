@@ -53,7 +53,7 @@ fn enter(
     classes::unite(classes, labels, y, x)
 }
 
-// A term at all its variants: at one, or at each where the label is empty.
+// A term at all variants that may be its own: at its lowest, or at each where the label is empty.
 fn enter_term(
     classes: &mut [u8; 96],
     labels: &mut [u16; 96],
@@ -70,14 +70,7 @@ fn enter_term(
     ensures { λ r. ⌜ SeenFit (now (sorts .entry)) (now (seen .exit)) (x + 1) 0 ⌝ }
     ensures { λ r. ⌜ Held (now (classes .exit)) ⌝ }
 {
-    if fieldless_of(sorts, fieldless, x) == 0 {
-        return false;
-    }
-    let label = classes::label_of(classes, labels, x);
-    if labels::size(label) > 1 {
-        return false;
-    }
-    let lowest = labels::lowest(label);
+    let lowest = labels::lowest(classes::label_of(classes, labels, x));
     if lowest < 16 {
         return enter(classes, labels, sorts, fieldless, seen, x, lowest);
     }
