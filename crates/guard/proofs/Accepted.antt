@@ -14,7 +14,8 @@ use Rattle.laws.specs.All.{All, All.more, All.none}
 use Rattle.laws.specs.Lists.{all}
 use Rattle.laws.proofs.Bools.{and-left, and-right, by-test}
 use Rattle.laws.proofs.Lists.{all-getD, all-mem, map-cong, map-from-length}
-use Rattle.guard.specs.File.{count, ended, file, kind, literal, literalOf, name, parts, rowOf, rows, termAndVariant, twoTerms, types, variant, variantTerm}
+use Rattle.guard.specs.File.{count, file, kind, literal, literalOf, name, parts, rowOf, rows, termAndVariant, twoTerms, types, variant, variantTerm}
+use Rattle.guard.specs.Grammar.{ended}
 use Rattle.guard.specs.Guard.{Guard, Literal, Literal.equal, Literal.is, Literal.isnt, Literal.unequal, Row, Row.built, Row.constant, Row.field, Row.variable, noRow, rowAt, typeAt, typeOf}
 use Rattle.guard.specs.Limits.{Limits, Supported, fieldLimit, totalVariantLimit, variantLimit}
 use Rattle.guard.specs.Message.{Message}

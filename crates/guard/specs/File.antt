@@ -1,140 +1,55 @@
--- The guard file: its parts in order, and the questions 4 to 10. Assumes nothing.
-use mathlib.Core.Bool.{Bool, true, false, not, _&&_}
-use mathlib.Core.List.{List, [], _∷_, _++_}
-use Prim.Native.Nat.{ℕ, zero, suc, _+_}
-use lib.Dec.{leb, ltb, eqb}
-use lib.ListN.{length}
-use Rattle.guard.specs.Limits.{Limits, variantLimit, fieldLimit, totalVariantLimit}
-use Rattle.guard.specs.Types.{Types, Variant, variantsOf, fieldsOf, isNumber, allDefaults, infiniteFields}
-use Rattle.guard.specs.Guard.{Row, Row.variable, Row.constant, Row.built, Row.field, Literal, Literal.equal, Literal.unequal, Literal.is, Literal.isnt, Guard, typeAt}
-use Rattle.guard.specs.Number.{Parser, Parsed.accepted, Parsed.refused, _>>=_, _>>_, return, times, ask, unsigned, unfoldSigned}
+-- The guard file in bytes, and its parts. Assumes nothing.
+use mathlib.Core.List.{List}
+use Prim.Native.Nat.{ℕ}
+use Rattle.guard.specs.Limits.{Limits}
+use Rattle.guard.specs.Types.{Types, Variant}
+use Rattle.guard.specs.Guard.{Guard, Literal, Row}
+use Rattle.guard.specs.Number.{Parser, unsigned}
+use Rattle.guard.specs.Grammar.{Source, fileOf}
+use Rattle.guard.specs.Grammar as grammar
 
--- question 4: "If a count, is it within its limits, the total of 48 included?"
+-- "A number is written in groups of seven bits, low group first", and so is a constant's value
+abbrev pub bytes : Source
+bytes = record { number = unsigned; folded = unsigned }
+
 abbrev pub count : ℕ → Parser ℕ
-count most = do
-  n ← unsigned
-  ask 4 (leb n most)
-  return n
+count = grammar.count bytes
 
--- question 5: "If it names a type, term, variant or position, is that thing there (for a row, an earlier row)?"
 abbrev pub name : ℕ → Parser ℕ
-name many = do
-  n ← unsigned
-  ask 5 (ltb n many)
-  return n
+name = grammar.name bytes
 
--- question 6: "If a kind, is it listed?"
 abbrev pub kind : Parser ℕ
-kind = do
-  k ← unsigned
-  ask 6 (ltb k 4)
-  return k
+kind = grammar.kind bytes
 
--- ---- types
-
--- "V variants follow, each as F (0 to 3) and F type numbers; a later type may be named"
 abbrev pub variant : ℕ → Parser Variant
-variant many = count fieldLimit >>= λ f. times f (name many)
+variant = grammar.variant bytes
 
--- "for each type V (0 to 16)"; "All types together have at most 48 variants."
--- so many types are left of `many`, and `total` variants are read
 abbrev pub types : ℕ → ℕ → ℕ → Parser Types
-types zero many total = return []
-types (suc left) many total = do
-  v ← unsigned
-  ask 4 (leb v variantLimit && leb (total + v) totalVariantLimit)
-  vs ← times v (variant many)
-  ts ← types left many (total + v)
-  return (vs ∷ ts)
+types = grammar.types bytes
 
--- ---- term rows, after the rows `rs`
-
--- question 7: "a part has its field's type"
 abbrev pub parts : Types → List Row → Variant → Parser (List ℕ)
-parts ts rs [] = return []
-parts ts rs (f ∷ fs) = do
-  p ← name (length rs)
-  ask 7 (eqb (typeAt ts rs p) f)
-  ps ← parts ts rs fs
-  return (p ∷ ps)
+parts = grammar.parts bytes
 
--- question 7: "a read or tested term is of variant type"; the term
 abbrev pub variantTerm : Types → List Row → Parser ℕ
-variantTerm ts rs = do
-  a ← name (length rs)
-  ask 7 (not (isNumber ts (typeAt ts rs a)))
-  return a
+variantTerm = grammar.variantTerm bytes
 
--- question 7: "a constant names a number type, a built row a variant type"
 abbrev pub rowOf : Types → List Row → ℕ → Parser Row
-rowOf ts rs zero = name (length ts) >>= λ t. return (variable t)
-rowOf ts rs (suc zero) = do
-  t ← name (length ts)
-  ask 7 (isNumber ts t)
-  n ← unsigned
-  return (constant t (unfoldSigned n))
-rowOf ts rs (suc (suc zero)) = do
-  t ← name (length ts)
-  ask 7 (not (isNumber ts t))
-  v ← name (length (variantsOf ts t))
-  ps ← parts ts rs (fieldsOf ts t v)
-  return (built t v ps)
-rowOf ts rs (suc (suc (suc k))) = do
-  a ← variantTerm ts rs
-  v ← name (length (variantsOf ts (typeAt ts rs a)))
-  p ← name (length (fieldsOf ts (typeAt ts rs a) v))
-  return (field (typeAt ts rs a) a v p)
+rowOf = grammar.rowOf bytes
 
--- "A row names only rows before it."
 abbrev pub rows : ℕ → Types → List Row → Parser (List Row)
-rows zero ts rs = return rs
-rows (suc left) ts rs = do
-  k ← kind
-  r ← rowOf ts rs k
-  rows left ts (rs ++ (r ∷ []))
+rows = grammar.rows bytes
 
--- ---- literals
-
--- question 7: "the second term of an equal or unequal line has the first's type"
 abbrev pub twoTerms : Types → List Row → (ℕ → ℕ → Literal) → Parser Literal
-twoTerms ts rs make = do
-  i ← name (length rs)
-  j ← name (length rs)
-  ask 7 (eqb (typeAt ts rs i) (typeAt ts rs j))
-  return (make i j)
+twoTerms = grammar.twoTerms bytes
 
 abbrev pub termAndVariant : Types → List Row → (ℕ → ℕ → Literal) → Parser Literal
-termAndVariant ts rs make = do
-  a ← variantTerm ts rs
-  v ← name (length (variantsOf ts (typeAt ts rs a)))
-  return (make a v)
+termAndVariant = grammar.termAndVariant bytes
 
 abbrev pub literalOf : Types → List Row → ℕ → Parser Literal
-literalOf ts rs zero = twoTerms ts rs equal
-literalOf ts rs (suc zero) = twoTerms ts rs unequal
-literalOf ts rs (suc (suc zero)) = termAndVariant ts rs is
-literalOf ts rs (suc (suc (suc k))) = termAndVariant ts rs isnt
+literalOf = grammar.literalOf bytes
 
 abbrev pub literal : Types → List Row → Parser Literal
-literal ts rs = kind >>= literalOf ts rs
+literal = grammar.literal bytes
 
--- ---- the file
-
--- question 10: "After the last line: has the file ended?"
-abbrev pub ended : Parser (Unit {0})
-ended [] = accepted tt []
-ended (b ∷ bs) = refused 10
-
--- "The file holds, in order: T .., then for each type V ..; N .., then N term rows; L .., then L lines."
 unfoldable pub file : Limits → Parser Guard
-file limits = do
-  many ← count (limits .types)
-  ts ← types many many 0
-  ask 8 (allDefaults ts)
-  ask 9 (infiniteFields ts)
-  n ← count (limits .terms)
-  rs ← rows n ts []
-  l ← count (limits .lines)
-  ls ← times l (literal ts rs)
-  ended
-  return (record { types = ts; rows = rs; literals = ls })
+file limits = fileOf bytes limits

@@ -3,6 +3,7 @@ pub mod Message
 pub mod Types
 pub mod Guard
 pub mod Number
+pub mod Grammar
 pub mod File
 pub mod WellFormed
 pub mod Meaning

@@ -5,7 +5,8 @@ use Prim.Native.Nat.{ℕ, zero, suc, _+_, _-_, _≤_, _<_}
 use native.Mathlib.Omega.{arith}
 use lib.ListN.{length, drop, set, length-append, length-drop}
 use Rattle.guard.specs.Guard.{Literal, Literal.equal}
-use Rattle.guard.specs.File.{count, ended, kind}
+use Rattle.guard.specs.File.{count, kind}
+use Rattle.guard.specs.Grammar.{ended}
 use Rattle.guard.specs.Number.{Parsed, Parsed.accepted, Parsed.refused, Parser, _>>=_, _>>_, andThen, return, times}
 use Rattle.guard.proofs.Repeats.{after, after-none, times-done, times-next, times-stop}
 use Rattle.tables.specs.Layout.{literalKind, literalOther, literalTable, literalTerm, pad}

@@ -7,7 +7,8 @@ use native.Mathlib.Omega.{arith}
 use lib.Dec.{eqb}
 use lib.ListN.{length, drop}
 use Rattle.laws.specs.All.{All}
-use Rattle.guard.specs.File.{count, ended, kind, literal, literalOf, name, termAndVariant, twoTerms, variantTerm}
+use Rattle.guard.specs.File.{count, kind, literal, literalOf, name, termAndVariant, twoTerms, variantTerm}
+use Rattle.guard.specs.Grammar.{ended}
 use Rattle.guard.specs.Guard.{Literal, Literal.equal, Literal.is, Literal.isnt, Literal.unequal, Row, typeAt}
 use Rattle.guard.specs.Number.{Parsed.accepted, Parsed.refused, return, times}
 use Rattle.guard.specs.Types.{Types, isNumber, variantsOf}

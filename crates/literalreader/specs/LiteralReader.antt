@@ -9,7 +9,8 @@ use lib.Dec.{eqb}
 use lib.ListN.{getD, drop}
 use Rattle.guard.specs.Guard.{Literal, Literal.equal, Literal.unequal, Literal.is, Literal.isnt}
 use Rattle.guard.specs.Number.{Parser, Parsed, Parsed.accepted, Parsed.refused, _>>=_, _>>_, return, ask, times}
-use Rattle.guard.specs.File.{count, ended, kind, name}
+use Rattle.guard.specs.File.{count, kind, name}
+use Rattle.guard.specs.Grammar.{ended}
 use Rattle.numbers.specs.Reader.{Says}
 use Rattle.tables.specs.Layout.{literalKind, literalOther, literalTable, literalTerm}
 use Rattle.literalreader.specs.declared.Pair.{Pair}

@@ -4,7 +4,8 @@ use mathlib.Core.Path.{_≡_, refl}
 use mathlib.Core.Bool.{Bool, true, false}
 use mathlib.Core.List.{List, [], _∷_}
 use Prim.Native.Nat.{ℕ}
-use Rattle.guard.specs.File.{count, ended, file, literal, rows, types}
+use Rattle.guard.specs.File.{count, file, literal, rows, types}
+use Rattle.guard.specs.Grammar.{ended}
 use Rattle.guard.specs.Guard.{Guard, Literal, Row}
 use Rattle.guard.specs.Limits.{Limits}
 use Rattle.guard.specs.Number.{Parsed, Parsed.accepted, Parsed.refused, Parser, _>>=_, _>>_, andThen, ask, return, times}

@@ -8,7 +8,8 @@ use lib.Dec.{leb}
 use lib.ListN.{length, length-append}
 use borrow.Author.Tests.{leb-true}
 use Rattle.laws.proofs.Bools.{and-right}
-use Rattle.guard.specs.File.{count, ended, file, literal, rows, types, variant}
+use Rattle.guard.specs.File.{count, file, literal, rows, types, variant}
+use Rattle.guard.specs.Grammar.{ended}
 use Rattle.guard.specs.Guard.{Guard}
 use Rattle.guard.specs.Limits.{Limits, totalVariantLimit, variantLimit}
 use Rattle.guard.specs.Number.{Parsed, Parsed.accepted, Parsed.refused, Parser, _>>=_, _>>_, andThen, ask, return, times, unsigned}
