@@ -14,8 +14,9 @@ use Rattle.laws.specs.All.{All, All.more, All.none}
 use Rattle.laws.specs.Lists.{all}
 use Rattle.laws.proofs.Bools.{and-left, and-right, by-test}
 use Rattle.laws.proofs.Lists.{all-getD, all-mem, map-cong, map-from-length}
-use Rattle.guard.specs.File.{count, file, kind, literal, literalOf, name, parts, rowOf, rows, termAndVariant, twoTerms, types, variant, variantTerm}
-use Rattle.guard.specs.Grammar.{ended}
+use Rattle.guard.specs.File.{bytes, count, file, kind, literal, literalOf, name, parts, rowOf, rows, termAndVariant, twoTerms, types, variant, variantTerm}
+use Rattle.guard.specs.Grammar.{Source, ended, fileOf}
+use Rattle.guard.specs.Grammar as grammar
 use Rattle.guard.specs.Guard.{Guard, Literal, Literal.equal, Literal.is, Literal.isnt, Literal.unequal, Row, Row.built, Row.constant, Row.field, Row.variable, noRow, rowAt, typeAt, typeOf}
 use Rattle.guard.specs.Limits.{Limits, Supported, fieldLimit, totalVariantLimit, variantLimit}
 use Rattle.guard.specs.Message.{Message}
@@ -50,10 +51,10 @@ reads-kind =
 
 -- ---- types
 
-abbrev VariantFits : ℕ → Variant → Type 0
+abbrev pub VariantFits : ℕ → Variant → Type 0
 VariantFits many fs = (length fs ≤ fieldLimit) × All (λ f. f < many) fs
 
-abbrev TypeFits : ℕ → List Variant → Type 0
+abbrev pub TypeFits : ℕ → List Variant → Type 0
 TypeFits many vs = (length vs ≤ variantLimit) × All (VariantFits many) vs
 
 reads-variant : (many : ℕ) → many ≤ 128 → Reads (variant many) (And (VariantFits many) 4)
@@ -215,12 +216,12 @@ all-some (some m ∷ ds) (suc t) e h = all-some ds t e (omega arith)
 
 -- ---- the file
 
-types-at : (many : ℕ) (ts : Types) → All (TypeFits many) ts → (t : ℕ) → TypeFits many (variantsOf ts t)
+pub types-at : (many : ℕ) (ts : Types) → All (TypeFits many) ts → (t : ℕ) → TypeFits many (variantsOf ts t)
 types-at many [] none t = (omega arith, none)
 types-at many (x ∷ ts) (more a bs) zero = a
 types-at many (x ∷ ts) (more a bs) (suc t) = types-at many ts bs t
 
-variants-at : (many : ℕ) (vs : List Variant) → All (VariantFits many) vs → (v : ℕ) → VariantFits many (getD vs v [])
+pub variants-at : (many : ℕ) (vs : List Variant) → All (VariantFits many) vs → (v : ℕ) → VariantFits many (getD vs v [])
 variants-at many [] none v = (omega arith, none)
 variants-at many (x ∷ xs) (more a bs) zero = a
 variants-at many (x ∷ xs) (more a bs) (suc v) = variants-at many xs bs v
@@ -274,16 +275,20 @@ pub accepted-well-formed : (limits : Limits) → Supported limits → (bytes : L
 unfolding Reads
 accepted-well-formed limits sup bytes g rest e = let (u, l, h) = reads-file limits sup bytes g rest e in h .0
 
--- after the last literal there is no byte left
-pub accepted-ended : (limits : Limits) (bytes : List ℕ) (g : Guard) (rest : List ℕ) → file limits bytes ≡ accepted g rest → rest ≡ []
-unfolding file Ends
-accepted-ended limits =
-    ends-bind (count (limits .types)) _ (λ many. ends-bind (types many many 0) _ (λ ts. ends-bind (ask 8 (allDefaults ts)) _ (λ a. ends-bind (ask 9 (infiniteFields ts)) _
-    (λ b. ends-bind (count (limits .terms)) _ (λ n. ends-bind (rows n ts []) _ (λ rs. ends-bind (count (limits .lines)) _ (λ l. ends-bind (times l (literal ts rs)) _ (λ ls. last ts rs ls))))))))
+-- after the last literal there is nothing left, wherever the numbers come from
+pub source-ended : (src : Source) (limits : Limits) → Ends (fileOf src limits)
+unfolding Ends
+source-ended src limits =
+    ends-bind (grammar.count src (limits .types)) _ (λ many. ends-bind (grammar.types src many many 0) _ (λ ts. ends-bind (ask 8 (allDefaults ts)) _ (λ a. ends-bind (ask 9 (infiniteFields ts)) _
+    (λ b. ends-bind (grammar.count src (limits .terms)) _ (λ n. ends-bind (grammar.rows src n ts []) _ (λ rs. ends-bind (grammar.count src (limits .lines)) _ (λ l. ends-bind (times l (grammar.literal src ts rs)) _ (λ ls. last ts rs ls))))))))
   where
     last : (ts : Types) (rs : List Row) (ls : List Literal) → Ends {A = Guard} (ended >> return (record { types = ts; rows = rs; literals = ls }))
     last ts rs ls [] g rest e = cc
     last ts rs ls (b ∷ bs) g rest e = let z : _≡_ {A = ℕ} 0 1 = cc in absurd (omega arith)
+
+pub accepted-ended : (limits : Limits) (bytes : List ℕ) (g : Guard) (rest : List ℕ) → file limits bytes ≡ accepted g rest → rest ≡ []
+unfolding file Ends
+accepted-ended limits = source-ended bytes limits
 
 pub accepted-length : (limits : Limits) → Supported limits → (bytes : List ℕ) (g : Guard) (rest : List ℕ) → file limits bytes ≡ accepted g rest → length bytes ≤ longestFile limits
 unfolding Reads

@@ -1,0 +1,124 @@
+-- Request #102: a list that is taken is read back from its bytes, and a file that is taken has the bytes of its list. Assumes nothing.
+use mathlib.Core.Path.{_≡_, refl, ap, sym, subst, _∙_}
+use mathlib.Core.List.{List, [], _∷_, _++_, append-nil, map}
+use Prim.Native.Nat.{ℕ, _≤_, _<_}
+use native.Mathlib.Omega.{arith}
+use lib.Dec.{leb}
+use lib.IntN.{ℤ, pos, negsuc}
+use borrow.Author.Tests.{le-leb, leb-true}
+use Rattle.laws.specs.All.{All, All.more, All.none}
+use Rattle.laws.specs.Lists.{concatMap}
+use Rattle.laws.proofs.Lists.{all-right, map-map}
+use Rattle.guard.specs.File.{bytes, file}
+use Rattle.guard.specs.Grammar.{fileOf}
+use Rattle.guard.specs.Guard.{Guard}
+use Rattle.guard.specs.Limits.{Limits, Supported}
+use Rattle.guard.specs.Number.{Parsed, Parsed.accepted, ask, foldSigned, unfoldSigned, unsigned, width32, _>>_, return}
+use Rattle.guard.proofs.Accepted.{source-ended}
+use Rattle.guard.proofs.Reading.{Ends, Reads, fold-unfold, reads-unsigned, unfold-fold}
+use Rattle.encoding.specs.Encoding.{encoded}
+use Rattle.encoding.proofs.Parsers.{ask-inv, not-accepted}
+use Rattle.encoding.proofs.ReadBack.{read-back}
+use Rattle.encoding.proofs.WrittenBack.{written-back}
+use Rattle.serialize.specs.NumberList.{beyond, fits, listFile, next, numberList, unsignedBy}
+use Rattle.serialize.specs.Tokens.{Token, bytesOf, guardTokens, listed, numbersOf, unsignedOf}
+use Rattle.serialize.proofs.Copying.{Copies, Form}
+use Rattle.serialize.proofs.CopiedFile.{copies-file}
+
+-- ---- bytes
+
+at-most : (bs : List ℕ) (n : ℕ) (rest : List ℕ) → unsigned bs ≡ accepted n rest → n ≤ width32 .most
+unfolding Reads
+at-most bs n rest e = let (u, l, h) = reads-unsigned bs n rest e in h .0
+
+as-bytes : Form
+as-bytes =
+    record {
+      src = bytes;
+      write = λ k. encoded (unsignedOf k);
+      Good = λ b. b < 256;
+      number-is = λ bs n rest good e small. let same : bs ≡ encoded n ++ rest = written-back bs n rest good e in (same, all-right (encoded n) rest (subst (All (λ b. b < 256)) same good));
+      folded-is = λ bs n rest good e.
+      let same : bs ≡ encoded n ++ rest = written-back bs n rest good e in
+      (at-most bs n rest e, same ∙ ap (λ (i : ℕ). encoded i ++ rest) (sym (fold-unfold n)), all-right (encoded n) rest (subst (All (λ b. b < 256)) same good));
+      number-back = λ n l small. read-back n l small;
+      folded-back = λ n l small. ap (λ (i : ℕ). unsigned (encoded i ++ l)) (fold-unfold n) ∙ read-back n l small;
+    }
+
+-- ---- lists
+
+abbrev one-number : Token → List ℕ
+one-number k = foldSigned (listed k) ∷ []
+
+abbrev Anything : ℕ → Type 0
+Anything w = Unit {0}
+
+unsigned-pos : (z : ℤ) (n : ℕ) → unsignedBy z ≡ n → n ≤ width32 .most → z ≡ pos n
+unsigned-pos (pos m) n e small = ap pos e
+unsigned-pos (negsuc m) n e small = absurd (omega (arith, e))
+
+list-number : (bs : List ℕ) (n : ℕ) (rest : List ℕ) → All Anything bs → numberList .number bs ≡ accepted n rest → n ≤ width32 .most → (bs ≡ foldSigned (pos n) ∷ rest) × All Anything rest
+list-number [] n rest good e small = absurd (not-accepted 2 n rest e)
+list-number (w ∷ ws) n rest (more g good) e small =
+    let same : unsignedBy (unfoldSigned w) ≡ n = cc in
+    let left : ws ≡ rest = cc in
+    let is : unfoldSigned w ≡ pos n = unsigned-pos (unfoldSigned w) n same small in
+    let folded : w ≡ foldSigned (pos n) = sym (fold-unfold w) ∙ ap foldSigned is in
+    (ap (λ (x : ℕ). x ∷ ws) folded ∙ ap (λ (l : List ℕ). foldSigned (pos n) ∷ l) left, subst (All Anything) left good)
+
+list-folded : (bs : List ℕ) (n : ℕ) (rest : List ℕ) → All Anything bs → numberList .folded bs ≡ accepted n rest
+    → (n ≤ width32 .most) × (bs ≡ foldSigned (unfoldSigned n) ∷ rest) × All Anything rest
+list-folded [] n rest good e = absurd (not-accepted 2 n rest e)
+list-folded (w ∷ ws) n rest (more g good) e =
+    let (small, r) = ask-inv 3 (leb w (width32 .most)) (return w) ws n rest e in
+    let same : w ≡ n = cc in
+    let left : ws ≡ rest = cc in
+    (subst (λ (x : ℕ). x ≤ width32 .most) same (leb-true w (width32 .most) small),
+      ap (λ (x : ℕ). x ∷ ws) (same ∙ sym (fold-unfold n)) ∙ ap (λ (l : List ℕ). foldSigned (unfoldSigned n) ∷ l) left,
+      subst (All Anything) left good)
+
+as-list : Form
+as-list =
+    record {
+      src = numberList;
+      write = one-number;
+      Good = Anything;
+      number-is = list-number;
+      folded-is = list-folded;
+      number-back = λ n l small. ap (λ (z : ℤ). accepted (unsignedBy z) l) (unfold-fold (pos n));
+      folded-back = λ n l small. ap (λ (i : ℕ). fits i l) (fold-unfold n) ∙ rw (le-leb n (width32 .most) small) refl;
+    }
+
+-- ---- both ways
+
+one-each : (ks : List Token) → concatMap one-number ks ≡ map foldSigned (map listed ks)
+one-each [] = refl
+one-each (k ∷ ks) = ap (λ (l : List ℕ). foldSigned (listed k) ∷ l) (one-each ks)
+
+all-anything : (ws : List ℕ) → All Anything ws
+all-anything [] = none
+all-anything (w ∷ ws) = more tt (all-anything ws)
+
+unfold-all : (zs : List ℤ) → map unfoldSigned (map foldSigned zs) ≡ zs
+unfold-all [] = refl
+unfold-all (z ∷ zs) = ap (λ (x : ℤ). x ∷ map unfoldSigned (map foldSigned zs)) (unfold-fold z) ∙ ap (λ (l : List ℤ). z ∷ l) (unfold-all zs)
+
+module _ (limits : Limits) (sup : Supported limits) where
+  -- "The desk reads the bytes back as that list"
+  pub read-as-list : (zs : List ℤ) (g : Guard) (rest : List ℕ) → listFile limits zs ≡ accepted g rest → (file limits (bytesOf g) ≡ accepted g []) × (numbersOf g ≡ zs)
+  unfolding listFile file bytesOf numbersOf Copies Ends as-bytes as-list
+  read-as-list zs g rest e =
+      let (ks, is, same, good, back) = copies-file as-list as-bytes limits sup (map foldSigned zs) g rest (all-anything (map foldSigned zs)) e in
+      let nothing : rest ≡ [] = source-ended numberList limits (map foldSigned zs) g rest e in
+      let folded : map foldSigned zs ≡ map foldSigned (map listed (guardTokens g)) = same ∙ ap (λ (l : List ℕ). concatMap one-number ks ++ l) nothing ∙ append-nil (concatMap one-number ks) ∙ one-each ks ∙ ap (λ (l : List Token). map foldSigned (map listed l)) is in
+      (ap (λ (l : List Token). fileOf bytes limits (concatMap (λ k. encoded (unsignedOf k)) l)) (sym is) ∙ ap (fileOf bytes limits) (sym (append-nil (concatMap (λ k. encoded (unsignedOf k)) ks))) ∙ back [] refl,
+        sym (unfold-all (map listed (guardTokens g))) ∙ ap (map unfoldSigned) (sym folded) ∙ unfold-all zs)
+
+  -- "an accepted file, read and written, has the same bytes"
+  pub same-bytes : (bs : List ℕ) (g : Guard) (rest : List ℕ) → All (λ b. b < 256) bs → file limits bs ≡ accepted g rest → (listFile limits (numbersOf g) ≡ accepted g []) × (bytesOf g ≡ bs)
+  unfolding listFile file bytesOf numbersOf Copies Ends as-bytes as-list
+  same-bytes bs g rest small e =
+      let (ks, is, same, good, back) = copies-file as-bytes as-list limits sup bs g rest small e in
+      let nothing : rest ≡ [] = source-ended bytes limits bs g rest e in
+      (ap (λ (l : List Token). fileOf numberList limits (map foldSigned (map listed l))) (sym is) ∙ ap (fileOf numberList limits) (sym (one-each ks) ∙ sym (append-nil (concatMap one-number ks))) ∙ back [] refl,
+        ap (concatMap (λ k. encoded (unsignedOf k))) (sym is) ∙ sym (append-nil (concatMap (λ k. encoded (unsignedOf k)) ks)) ∙ ap (λ (l : List ℕ). concatMap (λ k. encoded (unsignedOf k)) ks ++ l) (sym nothing) ∙ sym same)
