@@ -1,10 +1,10 @@
 -- Bytes put into a buffer, if they fit. Assumes nothing: definitions.
 use mathlib.Core.Path.{_≡_}
-use mathlib.Core.Bool.{true}
+use mathlib.Core.Bool.{true, cond}
 use mathlib.Core.List.{List, _++_}
-use Prim.Native.Nat.{ℕ, _+_}
+use Prim.Native.Nat.{ℕ, _+_, _-_}
 use lib.Dec.{leb}
-use lib.ListN.{length, take, drop}
+use lib.ListN.{length, take, drop, replicate}
 use Rattle.bytebuffer.specs.declared.End.{End}
 
 -- the buffer with these bytes from place `at` on
@@ -18,3 +18,7 @@ pub record Puts (bytes out : List ℕ) (at : ℕ) (r : End) (out′ : List ℕ) 
   pub fits : r .fits ≡ leb (at + length bytes) (length out)
   pub ends : r .fits ≡ true → r .at ≡ at + length bytes
   pub is : r .fits ≡ true → out′ ≡ putAt bytes out at
+
+-- bytes, and then zeros; nothing but zeros where they outgrow so much room
+abbrev pub filled : List ℕ → ℕ → List ℕ
+filled bytes room = cond (leb (length bytes) room) (bytes ++ replicate (room - length bytes) 0) (replicate room 0)

@@ -22,8 +22,10 @@ use Rattle.search.specs.Nodes.{GuardsTables}
 use Rattle.search.proofs.TablesRead.{guard-accepted, guard-tables}
 use Rattle.refutations.specs.Record.{recordBytes}
 use Rattle.recordwriter.specs.declared.Written.{Written}
-use Rattle.recordwriter.specs.Records.{Records, filled, writtenOf}
-use Rattle.recordwriter.proofs.RecordLaws.{filled-none, filled-with, written-none, written-with}
+use Rattle.bytebuffer.specs.Puts.{filled}
+use Rattle.bytebuffer.proofs.FillLaws.{filled-none, filled-with}
+use Rattle.recordwriter.specs.Records.{Records, writtenOf}
+use Rattle.recordwriter.proofs.RecordLaws.{written-none, written-with}
 use Rattle.decide.specs.Decides.{Decides}
 use Rattle.decide.proofs.Decided.{questions-file}
 use Rattle.explain.specs.Explains.{Explains, RecordsFile, Taken, askRecord, explained, explainedBy, isUnsat, padded, recordAfter, recordBy, recorded}

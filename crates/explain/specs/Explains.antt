@@ -19,7 +19,8 @@ use Rattle.guard.specs.declared.Answer.{Answer}
 use Rattle.guard.specs.declared.Answer.the-variants.{Refused, Sat, Unsat, Spent}
 use Rattle.refutations.specs.Record.{recordBytes}
 use Rattle.recordwriter.specs.declared.Written.{Written}
-use Rattle.recordwriter.specs.Records.{filled, writtenOf}
+use Rattle.bytebuffer.specs.Puts.{filled}
+use Rattle.recordwriter.specs.Records.{writtenOf}
 use Rattle.explain.specs.declared.Explained.{Explained}
 
 -- ---- the answer

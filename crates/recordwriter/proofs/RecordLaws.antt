@@ -19,9 +19,11 @@ use Rattle.search.specs.Nodes.{Accepted, GuardsTables}
 use Rattle.search.proofs.RootLaws.{arrays-of, givenIn, root-begun}
 use Rattle.refutations.specs.Record.{recordBytes, recordOf}
 use Rattle.bytebuffer.specs.declared.End.{End}
+use Rattle.bytebuffer.specs.Puts.{filled}
+use Rattle.bytebuffer.proofs.FillLaws.{ends-there, filled-with, fills, fits-room, outgrows}
 use Rattle.recordwriter.specs.declared.Written.{Written}
 use Rattle.nodewriter.specs.Writes.{Writes}
-use Rattle.recordwriter.specs.Records.{IsRecord, Records, RootPuts, filled, writtenOf}
+use Rattle.recordwriter.specs.Records.{IsRecord, Records, RootPuts, writtenOf}
 
 pub root-puts : (tables : Tables) (p : Problem) → p ≡ problemBy tables → (s : State) → s ≡ foldl add (first 96) (givenIn tables p) → {out : List ℕ} {r : End} {out′ : List ℕ}
     → Writes (p .shapes) (p .reads) (p .sorts) (p .full) (p .fieldless) (p .constants) (tables .rows .values) (tables .literals .kinds) (tables .literals .terms) (tables .literals .others) (tables .literals .many) s out 0 r out′
@@ -31,52 +33,29 @@ root-puts tables p ep s es w = record { puts = λ g ok is. w .puts g (g .literal
 
 -- ---- the buffer
 
-zeros-left : (k n : ℕ) → drop {A = ℕ} k (replicate n 0) ≡ replicate (n - k) 0
-zeros-left zero n = let whole : n ≡ n - 0 = omega arith in ap (λ (m : ℕ). replicate m 0) whole
-zeros-left (suc k) zero = let none : 0 ≡ 0 - suc k = omega arith in ap (λ (m : ℕ). replicate m 0) none
-zeros-left (suc k) (suc n) = let less : n - k ≡ suc n - suc k = omega arith in zeros-left k n ∙ ap (λ (m : ℕ). replicate m 0) less
-
 -- by whether the bytes fit
 module _ (bytes : List ℕ) (n : ℕ) where
-  pub filled-with : leb (length bytes) n ≡ true → filled bytes n ≡ bytes ++ replicate (n - length bytes) 0
-  filled-with q = ap (λ (b : Bool). cond b (bytes ++ replicate (n - length bytes) 0) (replicate n 0)) q
-
   pub written-with : leb (length bytes) n ≡ true → writtenOf bytes n ≡ record { fits = true; many = length bytes }
   written-with q = ap (λ (b : Bool). cond b (record { fits = true; many = length bytes }) (record { fits = false; many = 0 })) q
-
-  pub filled-none : leb (length bytes) n ≡ false → filled bytes n ≡ replicate n 0
-  filled-none q = ap (λ (b : Bool). cond b (bytes ++ replicate (n - length bytes) 0) (replicate n 0)) q
 
   pub written-none : leb (length bytes) n ≡ false → writtenOf bytes n ≡ record { fits = false; many = 0 }
   written-none q = ap (λ (b : Bool). cond b (record { fits = true; many = length bytes }) (record { fits = false; many = 0 })) q
 
 module _ {tables : Tables} (out : List ℕ) {blank : List ℕ} (clear : blank ≡ replicate (length out) 0) {r : End} {out′ : List ℕ} (w : RootPuts tables blank r out′) where
-  long : length blank ≡ length out
-  long = ap length clear ∙ length-replicate (length out) 0
-
-  room : (g : Guard) → Accepted g → tables ≡ guardTables g → (b : Bool) → r .fits ≡ b → leb (length (recordBytes g)) (length out) ≡ b
-  room g ok is b q = let from-start : length (recordBytes g) ≡ 0 + length (recordBytes g) = omega arith in ap₂ leb from-start (sym long) ∙ sym (w .puts g ok is .fits) ∙ q
-
   pub record-fits : r .fits ≡ true → Records tables (record { fits = true; many = r .at }) out out′
-  record-fits q = record { says = says; left = left }
-    where
-      from-start : (g : Guard) → 0 + length (recordBytes g) ≡ length (recordBytes g)
-      from-start g = omega arith
-
-      says : (g : Guard) → Accepted g → tables ≡ guardTables g → record { fits = true; many = r .at } ≡ writtenOf (recordBytes g) (length out)
-      says g ok is = ap (λ (k : ℕ). record { fits = true; many = k }) (w .puts g ok is .ends q ∙ from-start g) ∙ sym (written-with (recordBytes g) (length out) (room g ok is true q))
-
-      left : (g : Guard) → Accepted g → tables ≡ guardTables g → out′ ≡ filled (recordBytes g) (length out)
-      left g ok is =
-          w .puts g ok is .is q
-          ∙ ap (λ (zs : List ℕ). recordBytes g ++ zs) (ap₂ (λ (k : ℕ) (zs : List ℕ). drop k zs) (from-start g) clear ∙ zeros-left (length (recordBytes g)) (length out))
-          ∙ sym (filled-with (recordBytes g) (length out) (room g ok is true q))
+  record-fits q =
+      record {
+        says = λ g ok is.
+            ap (λ (k : ℕ). record { fits = true; many = k }) (ends-there out clear (w .puts g ok is) q)
+            ∙ sym (written-with (recordBytes g) (length out) (fits-room out clear (w .puts g ok is) true q));
+        left = λ g ok is. fills out clear (w .puts g ok is) q;
+      }
 
   pub record-outgrows : r .fits ≡ false → {last : List ℕ} → last ≡ replicate (length out′) 0 → Records tables (record { fits = false; many = 0 }) out last
   record-outgrows q e =
       record {
-        says = λ g ok is. sym (written-none (recordBytes g) (length out) (room g ok is false q));
-        left = λ g ok is. e ∙ ap (λ (k : ℕ). replicate k 0) (w .puts g ok is .long ∙ long) ∙ sym (filled-none (recordBytes g) (length out) (room g ok is false q));
+        says = λ g ok is. sym (written-none (recordBytes g) (length out) (fits-room out clear (w .puts g ok is) false q));
+        left = λ g ok is. outgrows out clear (w .puts g ok is) q e;
       }
 
 -- ---- the front part

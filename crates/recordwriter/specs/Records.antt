@@ -12,22 +12,18 @@ use Rattle.reader.specs.Reader.{guardTables}
 use Rattle.search.specs.Nodes.{Accepted}
 use Rattle.refutations.specs.Record.{recordBytes}
 use Rattle.bytebuffer.specs.declared.End.{End}
-use Rattle.bytebuffer.specs.Puts.{Puts}
+use Rattle.bytebuffer.specs.Puts.{Puts, filled}
 use Rattle.recordwriter.specs.declared.Written.{Written}
 
 -- the record of a guard that a reader took, from the start of the buffer on
 pub record RootPuts (tables : Tables) (out : List ℕ) (r : End) (out′ : List ℕ) : Type 0 where
   pub puts : (g : Guard) → Accepted g → tables ≡ guardTables g → Puts (recordBytes g) out 0 r out′
 
--- bytes, and then zeros: "the rest is 0"; nothing but zeros where they outgrow so much room
-abbrev pub filled : List ℕ → ℕ → List ℕ
-filled bytes room = cond (leb (length bytes) room) (bytes ++ replicate (room - length bytes) 0) (replicate room 0)
-
 -- whether they fit, and how many there are then
 abbrev pub writtenOf : List ℕ → ℕ → Written
 writtenOf bytes room = cond (leb (length bytes) room) (record { fits = true; many = length bytes }) (record { fits = false; many = 0 })
 
--- "writes an UNSAT walk into a lent byte buffer": of the answer r, and the buffer as it was and as it is left
+-- "writes an UNSAT walk into a lent byte buffer", "the rest is 0": of the answer r, and the buffer as it was and as it is left
 pub record Records (tables : Tables) (r : Written) (out out′ : List ℕ) : Type 0 where
   pub says : (g : Guard) → Accepted g → tables ≡ guardTables g → r ≡ writtenOf (recordBytes g) (length out)
   pub left : (g : Guard) → Accepted g → tables ≡ guardTables g → out′ ≡ filled (recordBytes g) (length out)

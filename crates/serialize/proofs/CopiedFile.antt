@@ -81,9 +81,11 @@ module _ (one other : Form) where
       (copies-times within v (variant s many) (variant s′ many) (VariantFits many) variantTokens (copies-variant many small))
       (λ vs ks hv. copies-bind within (types s left many (total + v)) (types s′ left many (total + v)) _ _ (λ ts js. (length ts ≡ left) × All (TypeFits many) ts × (js ≡ concatMap typeTokens ts)) (Good (λ js. plain v ∷ (ks ++ js)))
       (copies-types left many (total + v) small)
-      (λ ts js ht. copies-return within (vs ∷ ts) (Good (λ is. plain v ∷ (ks ++ (js ++ is))))
-      (ap suc (ht .0), more (omega (arith, hv .0), hv .1) (ht .1),
-        ap₂ (λ (n : ℕ) (l : List Token). plain n ∷ l) (sym (hv .0)) (ap₂ (λ (a b : List Token). a ++ b) (hv .2) (append-nil js ∙ ht .2))))))
+      (λ ts js ht. copies-return within (vs ∷ ts) (Good (λ is. plain v ∷ (ks ++ (js ++ is)))) (
+        ap suc (ht .0),
+        more (omega (arith, hv .0), hv .1) (ht .1),
+        ap₂ (λ (n : ℕ) (l : List Token). plain n ∷ l) (sym (hv .0)) (ap₂ (λ (a b : List Token). a ++ b) (hv .2) (append-nil js ∙ ht .2)),
+      ))))
     where
       Good : (List Token → List Token) → Types → List Token → Type 0
       Good tokens ts ks = (length ts ≡ suc left) × All (TypeFits many) ts × (tokens ks ≡ concatMap typeTokens ts)
@@ -190,12 +192,15 @@ module _ (one other : Form) where
         (λ k ks hk. copies-bind within (rowOf s ts rs k) (rowOf s′ ts rs k) _ _ (λ r js. k < 4 → plain k ∷ js ≡ rowTokens r) (Good (λ js. ks ++ js)) (copies-row ts rs (omega arith) names variants fields k)
         (λ r js hr. copies-weaken within (rows s left ts (rs ++ (r ∷ []))) (rows s′ left ts (rs ++ (r ∷ []))) (λ xs is. (length xs ≡ left + length (rs ++ (r ∷ []))) × (concatMap rowTokens (rs ++ (r ∷ [])) ++ is ≡ concatMap rowTokens xs))
         (Good (λ is. ks ++ (js ++ is))) (copies-rows left (rs ++ (r ∷ [])) (omega (arith, length-append rs (r ∷ []))))
-        (λ xs is h. (omega (arith, h .0, length-append rs (r ∷ [])),
+        (λ xs is h. (
+          omega (arith, h .0, length-append rs (r ∷ [])),
           ap (λ (x : List Token). concatMap rowTokens rs ++ x) (sym (append-assoc ks js is) ∙ ap (λ (x : List Token). x ++ is) (ap (λ (x : List Token). x ++ js) (hk .1) ∙ hr (hk .0)))
-          ∙ sym (append-assoc (concatMap rowTokens rs) (rowTokens r) is) ∙ ap (λ (x : List Token). x ++ is) (sym (row-last rs r)) ∙ h .1))))
+              ∙ sym (append-assoc (concatMap rowTokens rs) (rowTokens r) is) ∙ ap (λ (x : List Token). x ++ is) (sym (row-last rs r)) ∙ h .1,
+        ))))
       where
         Good : (List Token → List Token) → List Row → List Token → Type 0
         Good tokens xs ks = (length xs ≡ suc left + length rs) × (concatMap rowTokens rs ++ tokens ks ≡ concatMap rowTokens xs)
+
         row-last : (rs : List Row) (r : Row) → concatMap rowTokens (rs ++ (r ∷ [])) ≡ concatMap rowTokens rs ++ rowTokens r
         row-last rs r = concatMap-append rowTokens rs (r ∷ []) ∙ ap (λ (x : List Token). concatMap rowTokens rs ++ x) (append-nil (rowTokens r))
 
@@ -206,7 +211,7 @@ module _ (one other : Form) where
   copies-ended g P h [] a rest good e =
       let same : g ≡ a = cc in
       let left : [] ≡ rest = cc in
-      ([], subst (λ x. P x []) same h, left, subst (All (one .Good)) left good, λ l none. ap (λ (x : List ℕ). (ended >> return g) x) none ∙ ap₂ (λ (x : Guard) (y : List ℕ). accepted x y) same (sym none))
+      ([], subst (λ x. P x []) same h, none, left, subst (All (one .Good)) left good, λ l none. ap (λ (x : List ℕ). (ended >> return g) x) none ∙ ap₂ (λ (x : Guard) (y : List ℕ). accepted x y) same (sym none))
   copies-ended g P h (b ∷ bs) a rest good e = let z : _≡_ {A = ℕ} 0 1 = cc in absurd (omega arith)
 
   pub copies-file : (limits : Limits) → Supported limits → Copies whole (fileOf s limits) (fileOf s′ limits) (λ g ks. ks ≡ guardTokens g)
@@ -229,6 +234,7 @@ module _ (one other : Form) where
     where
       Good : (List Token → List Token) → Guard → List Token → Type 0
       Good tokens g ks = tokens ks ≡ guardTokens g
+
       in-order : (many n l : ℕ) (ts : Types) (rs : List Row) (ls : List Literal) (k1 k2 k3 k4 k5 k6 : List Token)
           → k1 ≡ plain many ∷ [] → length ts ≡ many → k2 ≡ concatMap typeTokens ts → k3 ≡ plain n ∷ [] → length rs ≡ n + 0 → k4 ≡ concatMap rowTokens rs
           → k5 ≡ plain l ∷ [] → length ls ≡ l → k6 ≡ concatMap literalTokens ls

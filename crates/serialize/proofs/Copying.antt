@@ -7,10 +7,12 @@ use Prim.Native.Nat.{ℕ, zero, suc, _≤_}
 use lib.ListN.{length}
 use Rattle.laws.specs.All.{All, All.more, All.none}
 use Rattle.laws.specs.Lists.{concatMap}
+use Rattle.laws.proofs.Lists.{all-append}
 use Rattle.guard.specs.Grammar.{Source}
 use Rattle.guard.specs.Number.{Parsed, Parsed.accepted, Parsed.refused, Parser, _>>=_, _>>_, andThen, ask, return, times, unfoldSigned, width32}
+use Rattle.guard.proofs.Reading.{fold-unfold}
 use Rattle.encoding.proofs.Parsers.{ask-inv, bind-inv}
-use Rattle.serialize.specs.Tokens.{Token, Token.plain, Token.value}
+use Rattle.serialize.specs.Tokens.{Token, Token.plain, Token.value, unsignedOf}
 
 pub concatMap-append : {A B : Type 0} (f : A → List B) (xs ys : List A) → concatMap f (xs ++ ys) ≡ concatMap f xs ++ concatMap f ys
 concatMap-append f [] ys = refl
@@ -37,10 +39,14 @@ pub record Pair : Type 1 where
 abbrev pub free : Pair → Pair
 free c = record { one = c .one; other = c .other; Follows = λ l. Unit {0} }
 
+-- a token whose number has 32 bits
+abbrev pub Fits : Token → Type 0
+Fits k = unsignedOf k ≤ width32 .most
+
 -- what p accepts are tokens of some kind, and p′ accepts the same value from these, whatever follows of what may follow
 unfoldable pub Copies : Pair → {A : Type 0} → Parser A → Parser A → (A → List Token → Type 0) → Type 0
 Copies c {A} p p′ Q = (bs : List ℕ) (a : A) (rest : List ℕ) → All (c .one .Good) bs → p bs ≡ accepted a rest
-    → (ks : List Token) × Q a ks × (bs ≡ concatMap (c .one .write) ks ++ rest) × All (c .one .Good) rest
+    → (ks : List Token) × Q a ks × All Fits ks × (bs ≡ concatMap (c .one .write) ks ++ rest) × All (c .one .Good) rest
     × ((more : List ℕ) → c .Follows more → p′ (concatMap (c .other .write) ks ++ more) ≡ accepted a more)
 
 module _ (c : Pair) where
@@ -56,14 +62,17 @@ module _ (c : Pair) where
     unfolding Copies
     copies-bind p p′ f f′ P Q hp hf bs b rest good e =
         let (a, mid, ep, ef) = bind-inv p f bs b rest e in
-        let (ks, pk, bk, goodk, backk) = hp bs a mid good ep in
-        let (js, qj, bj, goodj, backj) = hf a ks pk mid b rest goodk ef in
-        (ks ++ js, qj,
+        let (ks, pk, fk, bk, goodk, backk) = hp bs a mid good ep in
+        let (js, qj, fj, bj, goodj, backj) = hf a ks pk mid b rest goodk ef in (
+          ks ++ js,
+          qj,
+          all-append fk fj,
           bk ∙ ap (λ (l : List ℕ). concatMap write ks ++ l) bj ∙ sym (append-assoc (concatMap write ks) (concatMap write js) rest) ∙ ap (λ (l : List ℕ). l ++ rest) (sym (concatMap-append write ks js)),
           goodj,
           λ more follows.
-          ap (λ (l : List ℕ). andThen f′ (p′ l)) (ap (λ (l : List ℕ). l ++ more) (concatMap-append write′ ks js) ∙ append-assoc (concatMap write′ ks) (concatMap write′ js) more)
-          ∙ ap (andThen f′) (backk (concatMap write′ js ++ more) tt) ∙ backj more follows)
+              ap (λ (l : List ℕ). andThen f′ (p′ l)) (ap (λ (l : List ℕ). l ++ more) (concatMap-append write′ ks js) ∙ append-assoc (concatMap write′ ks) (concatMap write′ js) more)
+              ∙ ap (andThen f′) (backk (concatMap write′ js ++ more) tt) ∙ backj more follows,
+        )
 
   module _ {A : Type 0} where
     pub copies-return : (a : A) (P : A → List Token → Type 0) → P a [] → Copies c (return a) (return a) P
@@ -71,11 +80,11 @@ module _ (c : Pair) where
     copies-return a P h bs b rest good e =
         let same : a ≡ b = cc in
         let left : bs ≡ rest = cc in
-        ([], subst (λ x. P x []) same h, left, subst (All (c .one .Good)) left good, λ more follows. ap (λ x. accepted x more) same)
+        ([], subst (λ x. P x []) same h, none, left, subst (All (c .one .Good)) left good, λ more follows. ap (λ x. accepted x more) same)
 
     pub copies-weaken : (p p′ : Parser A) (P Q : A → List Token → Type 0) → Copies c p p′ P → ((a : A) (ks : List Token) → P a ks → Q a ks) → Copies c p p′ Q
     unfolding Copies
-    copies-weaken p p′ P Q h f bs a rest good e = let (ks, pk, same, left, back) = h bs a rest good e in (ks, f a ks pk, same, left, back)
+    copies-weaken p p′ P Q h f bs a rest good e = let (ks, pk, fit, same, left, back) = h bs a rest good e in (ks, f a ks pk, fit, same, left, back)
 
     -- the same question before both
     pub copies-asked : (q : ℕ) (b : Bool) (p p′ : Parser A) (Q : A → List Token → Type 0) → (b ≡ true → Copies c p p′ Q) → Copies c (ask q b >> p) (ask q b >> p′) Q
@@ -91,20 +100,30 @@ module _ (c : Pair) where
         let (n, mid, en, ef) = bind-inv (c .one .src .number) (λ n. ask q (test n) >> f n) bs a rest e in
         let (pass, er) = ask-inv q (test n) (f n) mid a rest ef in
         let (same, left) = c .one .number-is bs n mid good en (small n pass) in
-        let (ks, qk, bk, goodk, backk) = hf n pass mid a rest left er in
-        (plain n ∷ ks, qk, same ∙ ap (λ (l : List ℕ). write (plain n) ++ l) bk ∙ sym (append-assoc (write (plain n)) (concatMap write ks) rest), goodk,
+        let (ks, qk, fk, bk, goodk, backk) = hf n pass mid a rest left er in (
+          plain n ∷ ks,
+          qk,
+          more {xs = ks} (small n pass) fk,
+          same ∙ ap (λ (l : List ℕ). write (plain n) ++ l) bk ∙ sym (append-assoc (write (plain n)) (concatMap write ks) rest),
+          goodk,
           λ more follows.
-          ap (λ (l : List ℕ). andThen (λ (i : ℕ). ask q (test i) >> f′ i) (c .other .src .number l)) (append-assoc (write′ (plain n)) (concatMap write′ ks) more)
-          ∙ ap (andThen (λ (i : ℕ). ask q (test i) >> f′ i)) (c .other .number-back n (concatMap write′ ks ++ more) (small n pass))
-          ∙ ap (λ (b : Bool). andThen (λ (u : Unit {0}). f′ n) (ask q b (concatMap write′ ks ++ more))) pass ∙ backk more follows)
+              ap (λ (l : List ℕ). andThen (λ (i : ℕ). ask q (test i) >> f′ i) (c .other .src .number l)) (append-assoc (write′ (plain n)) (concatMap write′ ks) more)
+              ∙ ap (andThen (λ (i : ℕ). ask q (test i) >> f′ i)) (c .other .number-back n (concatMap write′ ks ++ more) (small n pass))
+              ∙ ap (λ (b : Bool). andThen (λ (u : Unit {0}). f′ n) (ask q b (concatMap write′ ks ++ more))) pass ∙ backk more follows,
+        )
 
   -- a constant's value
   pub copies-folded : Copies c (c .one .src .folded) (c .other .src .folded) (λ n ks. ks ≡ value (unfoldSigned n) ∷ [])
   unfolding Copies
   copies-folded bs n rest good e =
-      let (small, same, left) = c .one .folded-is bs n rest good e in
-      (value (unfoldSigned n) ∷ [], refl, same ∙ ap (λ (l : List ℕ). l ++ rest) (sym (append-nil (write (value (unfoldSigned n))))), left,
-        λ more follows. ap (λ (l : List ℕ). c .other .src .folded (l ++ more)) (append-nil (write′ (value (unfoldSigned n)))) ∙ c .other .folded-back n more small)
+      let (small, same, left) = c .one .folded-is bs n rest good e in (
+        value (unfoldSigned n) ∷ [],
+        refl,
+        more (subst (λ (x : ℕ). x ≤ width32 .most) (sym (fold-unfold n)) small) none,
+        same ∙ ap (λ (l : List ℕ). l ++ rest) (sym (append-nil (write (value (unfoldSigned n))))),
+        left,
+        λ more follows. ap (λ (l : List ℕ). c .other .src .folded (l ++ more)) (append-nil (write′ (value (unfoldSigned n)))) ∙ c .other .folded-back n more small,
+      )
 
 -- the same parsers so many times, each value written as its tokens
 pub copies-times : (c : Pair) {A : Type 0} (k : ℕ) (p p′ : Parser A) (P : A → Type 0) (tokens : A → List Token) → Copies (free c) p p′ (λ a ks. P a × (ks ≡ tokens a))

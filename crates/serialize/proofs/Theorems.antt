@@ -22,7 +22,7 @@ use Rattle.encoding.proofs.ReadBack.{read-back}
 use Rattle.encoding.proofs.WrittenBack.{written-back}
 use Rattle.serialize.specs.NumberList.{beyond, fits, listFile, next, numberList, unsignedBy}
 use Rattle.serialize.specs.Tokens.{Token, bytesOf, guardTokens, listed, numbersOf, unsignedOf}
-use Rattle.serialize.proofs.Copying.{Copies, Form}
+use Rattle.serialize.proofs.Copying.{Copies, Fits, Form}
 use Rattle.serialize.proofs.CopiedFile.{copies-file}
 
 -- ---- bytes
@@ -39,8 +39,8 @@ as-bytes =
       Good = λ b. b < 256;
       number-is = λ bs n rest good e small. let same : bs ≡ encoded n ++ rest = written-back bs n rest good e in (same, all-right (encoded n) rest (subst (All (λ b. b < 256)) same good));
       folded-is = λ bs n rest good e.
-      let same : bs ≡ encoded n ++ rest = written-back bs n rest good e in
-      (at-most bs n rest e, same ∙ ap (λ (i : ℕ). encoded i ++ rest) (sym (fold-unfold n)), all-right (encoded n) rest (subst (All (λ b. b < 256)) same good));
+          let same : bs ≡ encoded n ++ rest = written-back bs n rest good e in
+          (at-most bs n rest e, same ∙ ap (λ (i : ℕ). encoded i ++ rest) (sym (fold-unfold n)), all-right (encoded n) rest (subst (All (λ b. b < 256)) same good));
       number-back = λ n l small. read-back n l small;
       folded-back = λ n l small. ap (λ (i : ℕ). unsigned (encoded i ++ l)) (fold-unfold n) ∙ read-back n l small;
     }
@@ -72,10 +72,11 @@ list-folded [] n rest good e = absurd (not-accepted 2 n rest e)
 list-folded (w ∷ ws) n rest (more g good) e =
     let (small, r) = ask-inv 3 (leb w (width32 .most)) (return w) ws n rest e in
     let same : w ≡ n = cc in
-    let left : ws ≡ rest = cc in
-    (subst (λ (x : ℕ). x ≤ width32 .most) same (leb-true w (width32 .most) small),
+    let left : ws ≡ rest = cc in (
+      subst (λ (x : ℕ). x ≤ width32 .most) same (leb-true w (width32 .most) small),
       ap (λ (x : ℕ). x ∷ ws) (same ∙ sym (fold-unfold n)) ∙ ap (λ (l : List ℕ). foldSigned (unfoldSigned n) ∷ l) left,
-      subst (All Anything) left good)
+      subst (All Anything) left good,
+    )
 
 as-list : Form
 as-list =
@@ -108,17 +109,25 @@ module _ (limits : Limits) (sup : Supported limits) where
   pub read-as-list : (zs : List ℤ) (g : Guard) (rest : List ℕ) → listFile limits zs ≡ accepted g rest → (file limits (bytesOf g) ≡ accepted g []) × (numbersOf g ≡ zs)
   unfolding listFile file bytesOf numbersOf Copies Ends as-bytes as-list
   read-as-list zs g rest e =
-      let (ks, is, same, good, back) = copies-file as-list as-bytes limits sup (map foldSigned zs) g rest (all-anything (map foldSigned zs)) e in
+      let (ks, is, fit, same, good, back) = copies-file as-list as-bytes limits sup (map foldSigned zs) g rest (all-anything (map foldSigned zs)) e in
       let nothing : rest ≡ [] = source-ended numberList limits (map foldSigned zs) g rest e in
-      let folded : map foldSigned zs ≡ map foldSigned (map listed (guardTokens g)) = same ∙ ap (λ (l : List ℕ). concatMap one-number ks ++ l) nothing ∙ append-nil (concatMap one-number ks) ∙ one-each ks ∙ ap (λ (l : List Token). map foldSigned (map listed l)) is in
-      (ap (λ (l : List Token). fileOf bytes limits (concatMap (λ k. encoded (unsignedOf k)) l)) (sym is) ∙ ap (fileOf bytes limits) (sym (append-nil (concatMap (λ k. encoded (unsignedOf k)) ks))) ∙ back [] refl,
-        sym (unfold-all (map listed (guardTokens g))) ∙ ap (map unfoldSigned) (sym folded) ∙ unfold-all zs)
+      let folded : map foldSigned zs ≡ map foldSigned (map listed (guardTokens g)) = same ∙ ap (λ (l : List ℕ). concatMap one-number ks ++ l) nothing ∙ append-nil (concatMap one-number ks) ∙ one-each ks ∙ ap (λ (l : List Token). map foldSigned (map listed l)) is in (
+        ap (λ (l : List Token). fileOf bytes limits (concatMap (λ k. encoded (unsignedOf k)) l)) (sym is) ∙ ap (fileOf bytes limits) (sym (append-nil (concatMap (λ k. encoded (unsignedOf k)) ks))) ∙ back [] refl,
+        sym (unfold-all (map listed (guardTokens g))) ∙ ap (map unfoldSigned) (sym folded) ∙ unfold-all zs,
+      )
+
+  -- every number of a list that is taken has 32 bits, as it is written
+  pub tokens-fit : (zs : List ℤ) (g : Guard) (rest : List ℕ) → listFile limits zs ≡ accepted g rest → All Fits (guardTokens g)
+  unfolding listFile Copies as-bytes as-list
+  tokens-fit zs g rest e =
+      let (ks, is, fit, same, good, back) = copies-file as-list as-bytes limits sup (map foldSigned zs) g rest (all-anything (map foldSigned zs)) e in subst (All Fits) is fit
 
   -- "an accepted file, read and written, has the same bytes"
   pub same-bytes : (bs : List ℕ) (g : Guard) (rest : List ℕ) → All (λ b. b < 256) bs → file limits bs ≡ accepted g rest → (listFile limits (numbersOf g) ≡ accepted g []) × (bytesOf g ≡ bs)
   unfolding listFile file bytesOf numbersOf Copies Ends as-bytes as-list
   same-bytes bs g rest small e =
-      let (ks, is, same, good, back) = copies-file as-bytes as-list limits sup bs g rest small e in
-      let nothing : rest ≡ [] = source-ended bytes limits bs g rest e in
-      (ap (λ (l : List Token). fileOf numberList limits (map foldSigned (map listed l))) (sym is) ∙ ap (fileOf numberList limits) (sym (one-each ks) ∙ sym (append-nil (concatMap one-number ks))) ∙ back [] refl,
-        ap (concatMap (λ k. encoded (unsignedOf k))) (sym is) ∙ sym (append-nil (concatMap (λ k. encoded (unsignedOf k)) ks)) ∙ ap (λ (l : List ℕ). concatMap (λ k. encoded (unsignedOf k)) ks ++ l) (sym nothing) ∙ sym same)
+      let (ks, is, fit, same, good, back) = copies-file as-bytes as-list limits sup bs g rest small e in
+      let nothing : rest ≡ [] = source-ended bytes limits bs g rest e in (
+        ap (λ (l : List Token). fileOf numberList limits (map foldSigned (map listed l))) (sym is) ∙ ap (fileOf numberList limits) (sym (one-each ks) ∙ sym (append-nil (concatMap one-number ks))) ∙ back [] refl,
+        ap (concatMap (λ k. encoded (unsignedOf k))) (sym is) ∙ sym (append-nil (concatMap (λ k. encoded (unsignedOf k)) ks)) ∙ ap (λ (l : List ℕ). concatMap (λ k. encoded (unsignedOf k)) ks ++ l) (sym nothing) ∙ sym same,
+      )
