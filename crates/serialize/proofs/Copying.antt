@@ -12,7 +12,7 @@ use Rattle.guard.specs.Grammar.{Source}
 use Rattle.guard.specs.Number.{Parsed, Parsed.accepted, Parsed.refused, Parser, _>>=_, _>>_, andThen, ask, return, times, unfoldSigned, width32}
 use Rattle.guard.proofs.Reading.{fold-unfold}
 use Rattle.encoding.proofs.Parsers.{ask-inv, bind-inv}
-use Rattle.serialize.specs.Tokens.{Token, Token.plain, Token.value, unsignedOf}
+use Rattle.serialize.specs.Tokens.{Fits, Token, Token.plain, Token.value}
 
 pub concatMap-append : {A B : Type 0} (f : A → List B) (xs ys : List A) → concatMap f (xs ++ ys) ≡ concatMap f xs ++ concatMap f ys
 concatMap-append f [] ys = refl
@@ -38,10 +38,6 @@ pub record Pair : Type 1 where
 -- where anything may follow
 abbrev pub free : Pair → Pair
 free c = record { one = c .one; other = c .other; Follows = λ l. Unit {0} }
-
--- a token whose number has 32 bits
-abbrev pub Fits : Token → Type 0
-Fits k = unsignedOf k ≤ width32 .most
 
 -- what p accepts are tokens of some kind, and p′ accepts the same value from these, whatever follows of what may follow
 unfoldable pub Copies : Pair → {A : Type 0} → Parser A → Parser A → (A → List Token → Type 0) → Type 0

@@ -1,12 +1,12 @@
 -- The numbers of a guard file, in file order. Assumes nothing.
 use mathlib.Core.List.{List, [], _∷_, _++_, map}
-use Prim.Native.Nat.{ℕ}
+use Prim.Native.Nat.{ℕ, _≤_}
 use lib.IntN.{ℤ, pos}
 use lib.ListN.{length}
 use Rattle.laws.specs.Lists.{concatMap}
 use Rattle.guard.specs.Types.{Variant}
 use Rattle.guard.specs.Guard.{Guard, Literal, Literal.equal, Literal.is, Literal.isnt, Literal.unequal, Row, Row.built, Row.constant, Row.field, Row.variable}
-use Rattle.guard.specs.Number.{foldSigned}
+use Rattle.guard.specs.Number.{foldSigned, width32}
 use Rattle.encoding.specs.Encoding.{encoded}
 
 -- a number of the file: a count, a name or a kind; or a constant's value
@@ -59,6 +59,10 @@ numbersOf g = map listed (guardTokens g)
 abbrev pub unsignedOf : Token → ℕ
 unsignedOf (plain n) = n
 unsignedOf (value z) = foldSigned z
+
+-- a number of 32 bits, as every one that a file can hold
+abbrev pub Fits : Token → Type 0
+Fits k = unsignedOf k ≤ width32 .most
 
 unfoldable pub bytesOf : Guard → List ℕ
 bytesOf g = concatMap (λ k. encoded (unsignedOf k)) (guardTokens g)
