@@ -1,0 +1,1 @@
+// Reads a guard file given as a list of its numbers.
