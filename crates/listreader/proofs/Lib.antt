@@ -1,1 +1,2 @@
 pub mod Simulation
+pub mod Simulated

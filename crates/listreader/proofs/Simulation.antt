@@ -8,6 +8,7 @@ use native.Mathlib.Nat.{suc-mul}
 use lib.Dec.{leb, ltb, eqb}
 use lib.IntN.{ℤ, pos, negsuc}
 use borrow.Author.Tests.{le-leb}
+use Rattle.guard.specs.Grammar.{ended}
 use Rattle.guard.specs.Number.{Parsed, Parsed.accepted, Parsed.refused, Parser, _>>=_, _>>_, andThen, ask, foldSigned, return, times, unfoldSigned, unsigned, width32}
 use Rattle.guard.proofs.Reading.{fold-unfold}
 use Rattle.encoding.proofs.ReadBack.{one-byte, read-back}
@@ -106,16 +107,10 @@ module _ {A B : Type 0} where
   unfolding Sim
   sim-return a b R ab ws n m h = (n, refl, omega arith, refl, ab)
 
-  -- more room, and less said of the values
-  pub sim-weaken : (late : Bool) (j k : ℕ) (p : Parser A) (p′ : Parser B) (R S : A → B → Type 0) → j ≤ k → ((a : A) (b : B) → R a b → S a b) → Sim late j p p′ R → Sim late k p p′ S
+  -- more room
+  pub sim-room : (late : Bool) (j k : ℕ) (p : Parser A) (p′ : Parser B) (R : A → B → Type 0) → j ≤ k → Sim late j p p′ R → Sim late k p p′ R
   unfolding Sim
-  sim-weaken late j k p p′ R S l f hp ws n m h = go (p ws) (p′ (plainOf n ws)) (hp ws n m (omega arith))
-    where
-      go : (r : Parsed A) (r′ : Parsed B) → Agree late m (wideIn n ws) R r r′ → Agree late m (wideIn n ws) S r r′
-      go (refused q) (refused q′) e = e
-      go (refused q) (accepted b bs) e = e
-      go (accepted a ws′) (refused q′) e = absurd e
-      go (accepted a ws′) (accepted b bs) (n′, e, l, c, ab) = (n′, e, l, c, f a b ab)
+  sim-room late j k p p′ R l hp ws n m h = hp ws n m (omega arith)
 
   pub sim-late : (k : ℕ) (p : Parser A) (p′ : Parser B) (R : A → B → Type 0) → Sim false k p p′ R → Sim true k p p′ R
   unfolding Sim
@@ -127,17 +122,6 @@ module _ {A B : Type 0} where
       go (accepted a ws′) (refused q′) e = absurd e
       go (accepted a ws′) (accepted b bs) e = e
 
-  -- what the second parser's values satisfy
-  pub sim-gives : (late : Bool) (k : ℕ) (p : Parser A) (p′ : Parser B) (R : A → B → Type 0) (P : B → Type 0) → Tidy p′ P → Sim late k p p′ R → Sim late k p p′ (λ a b. R a b × P b)
-  unfolding Sim
-  sim-gives late k p p′ R P t hp ws n m h = go (p ws) (p′ (plainOf n ws)) refl (hp ws n m h)
-    where
-      go : (r : Parsed A) (r′ : Parsed B) → p′ (plainOf n ws) ≡ r′ → Agree late m (wideIn n ws) R r r′ → Agree late m (wideIn n ws) (λ a b. R a b × P b) r r′
-      go (refused q) (refused q′) i e = e
-      go (refused q) (accepted b bs) i e = e
-      go (accepted a ws′) (refused q′) i e = absurd e
-      go (accepted a ws′) (accepted b bs) i (n′, e, l, c, ab) = (n′, e, l, c, (ab, t .gives (plainOf n ws) b bs i))
-
   -- the same question of both
   pub sim-asked : (late : Bool) (k q : ℕ) (x y : Bool) (p : Parser A) (p′ : Parser B) (R : A → B → Type 0) → eqb q 2 ≡ false → x ≡ y
       → (x ≡ true → Sim late k p p′ R) → Sim late k (ask q x >> p) (ask q y >> p′) R
@@ -147,6 +131,17 @@ module _ {A B : Type 0} where
       by : (x : Bool) → (x ≡ true → Sim late k p p′ R) → Sim late k (ask q x >> p) (ask q x >> p′) R
       by true hp = hp refl
       by false hp = λ ws n m h. unchanged (wideIn n ws) q other
+
+-- what the second parser's values satisfy, where both have equal ones
+pub sim-gives : {A : Type 0} (late : Bool) (k : ℕ) (p p′ : Parser A) (P Q : A → Type 0) → Tidy p′ Q → Sim late k p p′ (Same P) → Sim late k p p′ (Same Q)
+unfolding Sim
+sim-gives {A} late k p p′ P Q t hp ws n m h = go (p ws) (p′ (plainOf n ws)) refl (hp ws n m h)
+  where
+    go : (r r′ : Parsed A) → p′ (plainOf n ws) ≡ r′ → Agree late m (wideIn n ws) (Same P) r r′ → Agree late m (wideIn n ws) (Same Q) r r′
+    go (refused q) (refused q′) i e = e
+    go (refused q) (accepted b bs) i e = e
+    go (accepted a ws′) (refused q′) i e = absurd e
+    go (accepted a ws′) (accepted b bs) i (n′, e, l, c, ab) = (n′, e, l, c, (ab .0, subst Q (sym (ab .0)) (t .gives (plainOf n ws) b bs i)))
 
 -- ---- one number
 
@@ -193,9 +188,17 @@ sim-folded (w ∷ ws) (suc n) m h = rw (plain-read w (cond (wide w) [] (plainOf 
 -- ---- the same parser so many times
 
 pub sim-times : {A : Type 0} (k j : ℕ) (p p′ : Parser A) (P : A → Type 0) → Sim false j p p′ (Same P) → Sim false (k * j) (times k p) (times k p′) (Same Any)
-sim-times zero j p p′ P hp = sim-weaken false 0 (0 * j) (return []) (return []) (Same Any) (Same Any) (omega arith) (λ a b ab. ab) (sim-return [] [] (Same Any) (refl, tt))
+sim-times zero j p p′ P hp = sim-room false 0 (0 * j) (return []) (return []) (Same Any) (omega arith) (sim-return [] [] (Same Any) (refl, tt))
 sim-times (suc k) j p p′ P hp =
-    sim-weaken false (j + (k * j + 0)) (suc k * j) (times (suc k) p) (times (suc k) p′) (Same Any) (Same Any) (omega (arith, suc-mul k j)) (λ a b ab. ab)
+    sim-room false (j + (k * j + 0)) (suc k * j) (times (suc k) p) (times (suc k) p′) (Same Any) (omega (arith, suc-mul k j))
     (sim-bind-same false j (k * j + 0) p p′ _ _ P (Same Any) hp
     (λ x px. sim-bind-same false (k * j) 0 (times k p) (times k p′) _ _ Any (Same Any) (sim-times k j p p′ P hp)
     (λ xs h. sim-return (x ∷ xs) (x ∷ xs) (Same Any) (refl, tt))))
+
+-- ---- the end
+
+pub sim-ended : Sim false 1 ended ended (Same Any)
+unfolding Sim
+sim-ended ws zero m h = absurd (omega arith)
+sim-ended [] (suc n) m h = (suc n, refl, omega arith, refl, (refl, tt))
+sim-ended (w ∷ ws) (suc n) m h = unchanged (wideIn (suc n) (w ∷ ws)) 10 refl
