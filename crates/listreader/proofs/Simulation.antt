@@ -42,7 +42,7 @@ Short late (refused q) = q ≡ 2
 Short late (accepted b bs) = (late ≡ true) × (bs ≡ [])
 
 -- any question but 2 stays what it is
-unchanged : (cut : Bool) (q : ℕ) → eqb q 2 ≡ false → q ≡ asked cut q
+pub unchanged : (cut : Bool) (q : ℕ) → eqb q 2 ≡ false → q ≡ asked cut q
 unchanged true q other = rw other refl
 unchanged false q other = refl
 

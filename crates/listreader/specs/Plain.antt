@@ -36,3 +36,7 @@ wideIn (suc n) (w ∷ ws) = cond (wide w) true (wideIn n ws)
 -- each variant, six for each row, three for each line.
 abbrev pub mostNumbers : Limits → ℕ
 mostNumbers limits = 4 + limits .types + 4 * totalVariantLimit + 6 * limits .terms + 3 * limits .lines
+
+-- room for the numbers of any file of the base
+abbrev pub room : ℕ
+room = 448
