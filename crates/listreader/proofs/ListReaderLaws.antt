@@ -1,6 +1,6 @@
 -- What the tables of the plain bytes say of the list: they are its own, but where 2 stands for a value beyond 32 bits. Assumes nothing.
 use mathlib.Core.Path.{_≡_, refl, ap, sym, _∙_}
-use mathlib.Core.Bool.{Bool, true, false}
+use mathlib.Core.Bool.{true, false}
 use mathlib.Core.List.{List, map}
 use mathlib.Core.Logic.{_⊎_, inl, inr}
 use Prim.Native.Nat.{ℕ}
@@ -11,13 +11,13 @@ use borrow.Author.Tests.{ne-eqb}
 use Rattle.guard.specs.File.{file}
 use Rattle.guard.specs.Grammar.{fileOf}
 use Rattle.guard.specs.Guard.{Guard}
-use Rattle.guard.specs.Limits.{Supported, base}
+use Rattle.guard.specs.Limits.{base}
 use Rattle.guard.specs.Number.{Parsed, Parsed.accepted, Parsed.refused, foldSigned}
 use Rattle.serialize.specs.NumberList.{listFile, numberList}
 use Rattle.reader.specs.Reader.{asTables, guardTables, limitsOf, noTables, tablesAt}
 use Rattle.reader.specs.declared.Tables.{Tables}
 use Rattle.listreader.specs.ListReader.{ReadsList}
-use Rattle.listreader.specs.Plain.{plainOf, room, wideIn}
+use Rattle.listreader.specs.Plain.{plainOf, room}
 use Rattle.listreader.specs.Written.{Written}
 use Rattle.listreader.specs.declared.Plain.{Plain}
 use Rattle.listreader.proofs.Simulation.{asked, unchanged}

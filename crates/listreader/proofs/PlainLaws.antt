@@ -12,7 +12,7 @@ use lib.ListN.{length, getD, set, take, drop, length-set, drop-of-length-le}
 use lib.Seq.{append-snoc, drop-cons, take-suc-set}
 use lib.Signed.{ltZ}
 use borrow.Author.Tests.{le-leb, lt-leb, ltb-false, ltb-true}
-use Rattle.guard.specs.Number.{foldSigned, unfoldSigned, width32}
+use Rattle.guard.specs.Number.{foldSigned, width32}
 use Rattle.guard.proofs.Reading.{unfold-fold}
 use Rattle.serialize.specs.NumberList.{unsignedBy}
 use Rattle.listreader.specs.Plain.{largest, plainByte, plainOf, room, wide, wideIn}

@@ -1,7 +1,7 @@
 -- The questions asked of a list, and those asked of its plain bytes, get the same answers: along the file. Assumes nothing.
 use mathlib.Core.Path.{_≡_, refl, ap, ap₂, sym, subst, _∙_}
 use mathlib.Core.Bool.{Bool, true, false, not, _&&_, false≢true}
-use mathlib.Core.List.{List, [], _∷_, _++_, map, map-append}
+use mathlib.Core.List.{List, [], _∷_, _++_, map-append}
 use Prim.Native.Nat.{ℕ, zero, suc, _+_, _-_, _*_, _≤_, _<_}
 use native.Mathlib.Omega.{arith}
 use lib.Dec.{leb, ltb, eqb}
@@ -13,7 +13,7 @@ use Rattle.guard.specs.File.{bytes, file}
 use Rattle.guard.specs.Grammar.{Source, count, ended, fileOf, kind, literal, literalOf, name, parts, rowOf, rows, termAndVariant, twoTerms, types, variant, variantTerm}
 use Rattle.guard.specs.Guard.{Guard, Literal, Literal.equal, Literal.is, Literal.isnt, Literal.unequal, Row, Row.built, Row.constant, Row.field, Row.variable, noRow, rowAt, typeAt, typeOf}
 use Rattle.guard.specs.Limits.{Limits, Supported, fieldLimit, totalVariantLimit, variantLimit}
-use Rattle.guard.specs.Number.{Parsed, Parsed.accepted, Parsed.refused, Parser, _>>=_, _>>_, ask, return, times, unfoldSigned}
+use Rattle.guard.specs.Number.{Parsed, Parsed.accepted, Parsed.refused, Parser, _>>=_, _>>_, return, times, unfoldSigned}
 use Rattle.guard.specs.Types.{Types, Variant, allDefaults, fieldsOf, infiniteFields, isNumber, variantsOf}
 use Rattle.serialize.specs.NumberList.{numberList}
 use Rattle.numbers.proofs.Tidy.{Any}
@@ -21,7 +21,7 @@ use Rattle.typereader.proofs.TidyTypes.{TypesFit, tidy-types}
 use Rattle.variantreader.proofs.TidyVariants.{VariantFits}
 use Rattle.listreader.specs.ListReader.{valueless, valuelessRow, valuelessRows}
 use Rattle.listreader.specs.Plain.{largest, mostNumbers, plainOf, wideIn}
-use Rattle.listreader.proofs.Simulation.{Agree, Same, Short, Sim, asked, sim-asked, sim-bind, sim-bind-late, sim-bind-same, sim-ended, sim-folded, sim-gives, sim-late, sim-number, sim-return, sim-room, sim-times}
+use Rattle.listreader.proofs.Simulation.{Agree, Same, Short, Sim, asked, sim-asked, sim-bind-late, sim-bind-same, sim-ended, sim-folded, sim-gives, sim-late, sim-number, sim-return, sim-room, sim-times}
 
 -- ---- counts, names and kinds
 

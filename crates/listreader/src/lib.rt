@@ -11,12 +11,14 @@ ghost use Rattle.listreader.specs.ListReader.{ReadsList};
 ghost use Rattle.listreader.specs.Plain.{plainByte, room, wide};
 ghost use Rattle.listreader.specs.Written.{Written};
 
+// Whether a number is beyond 32 bits, so that it is no constant's value.
 fn is_wide(x: i64) -> bool
     ensures { λ r. ⌜ r ≡ wide (foldSigned x) ⌝ }
 {
     x < -2147483648 || 2147483647 < x
 }
 
+// The byte that stands for a number.
 fn plain_byte(x: i64) -> u8
     ensures { λ r. ⌜ r ≡ plainByte (foldSigned x) ⌝ }
 {
@@ -32,6 +34,7 @@ struct Plain {
     wide: bool,
 }
 
+// Writes the plain bytes of the list. No file has more than 441 numbers, so the 442nd already shows that the list goes on.
 fn plain_bytes(list: &[i64], out: &mut [u8; 448]) -> Plain
     requires { ⌜ length (now out) ≡ room ⌝ }
     ensures { λ r. ⌜ Written (now (list .entry)) (now (out .exit)) r ⌝ }

@@ -2,7 +2,7 @@
 use mathlib.Core.Path.{_≡_, refl, sym, _∙_}
 use mathlib.Core.Logic.{inl, inr}
 use mathlib.Core.List.{List}
-use Prim.Native.Nat.{_-_, _≤_}
+use Prim.Native.Nat.{_-_}
 use native.Mathlib.Omega.{arith}
 use lib.IntN.{ℤ, pos}
 use lib.ListN.{getD}
@@ -12,13 +12,9 @@ use mir.Facts.{toZ-ofZ}
 use borrow.Author.Needs.{needs}
 use borrow.Author.Tests.{ltb-false, ltb-true}
 use Rattle.listreader.proofs.PlainLaws.{Front, all-written, front-next, stopped}
-use Rattle.listreader.specs.Plain.{plainOf, room, wideIn}
+use Rattle.listreader.specs.Plain.{room}
 use Rattle.listreader.proofs.plain_bytes.Statement.{statement}
 use Rattle.listreader.proofs.plain_bytes.Tie as tie
-use Rattle.listreader.proofs.plain_bytes.Reads as reads
-use Rattle.listreader.proofs.plain_bytes.Lts as lts
-use Rattle.listreader.proofs.is_wide.Reads as is-wide-reads
-use Rattle.listreader.proofs.plain_byte.Reads as plain-byte-reads
 
 abbrev Inv-loop : tie.InvT-loop
 Inv-loop list out₀ many₀ out many = Front list out many
