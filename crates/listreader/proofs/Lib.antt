@@ -1,0 +1,4 @@
+pub mod Simulation
+pub mod Simulated
+pub mod PlainLaws
+pub mod ListReaderLaws
