@@ -46,6 +46,9 @@ groups-length : (k n : ℕ) → length (groupsOf k n) ≤ k
 groups-length zero n = omega arith
 groups-length (suc k) n = by-size (λ gs. length gs ≤ suc k) k n (λ l. omega arith) (λ l. omega (arith, groups-length k (n / 128)))
 
+pub some-group : (k n : ℕ) → 1 ≤ length (groupsOf (suc k) n)
+some-group k n = by-size (λ gs. 1 ≤ length gs) k n (λ l. omega arith) (λ l. omega arith)
+
 -- numbers up to the most that a width allows, where its bytes suffice for them
 module _ (w : Width) (fits : w .most < 128 ^ (w .bytes)) where
   well-formed : (n : ℕ) → n ≤ w .most → wellFormed w (encodedOf w n) ≡ true
@@ -69,6 +72,10 @@ unfolding encoded
 read-back n bs h = read-back-of width32 (omega arith) n bs h
 
 -- "It has one to five bytes"; a number below 128 has one
+pub one-at-least : (n : ℕ) → 1 ≤ length (encoded n)
+unfolding encoded
+one-at-least n = some-group 4 n
+
 pub at-most-five : (n : ℕ) → length (encoded n) ≤ 5
 unfolding encoded
 at-most-five n = groups-length 5 n

@@ -6,7 +6,6 @@ pub mod AnyOrder
 pub mod Agreement
 pub mod Reading
 pub mod Accepted
-pub mod Refusals
 pub mod MessageLaws
 pub mod DefaultLaws
 pub mod TableLaws

@@ -6,10 +6,9 @@ use Prim.Native.Nat.{ℕ, zero, suc, _+_, _/_, _%_, _^_, _≤_, _<_}
 use native.Mathlib.Omega.{arith}
 use native.Mathlib.Nat.{pow-suc}
 use lib.ListN.{length, set}
-use lib.Dec.{ltb}
 use borrow.Author.Tests.{le-ltb, lt-ltb}
-use Rattle.laws.proofs.Bools.{by-test}
 use Rattle.encoding.specs.Encoding.{encoded, groupsOf}
+use Rattle.encoding.proofs.ReadBack.{some-group}
 use Rattle.bytebuffer.specs.Puts.{Puts}
 use Rattle.bytebuffer.proofs.PutLaws.{and-then, full, nothing, same-bytes, stored}
 
@@ -24,9 +23,6 @@ pub record Midway (n : ℕ) (out : List ℕ) (at rest next : ℕ) (out′ : List
 pub begin : (n : ℕ) (out : List ℕ) (at : ℕ) → n ≤ 4294967295 → at ≤ length out → Midway n out at n at out
 unfolding encoded
 begin n out at small h = record { done = []; left = 4; split = refl; enough = omega arith; puts = nothing h }
-
-some-group : (k n : ℕ) → 1 ≤ length (groupsOf (suc k) n)
-some-group k n = by-test (ltb n 128) (λ e. rw (e) (omega arith)) (λ e. rw (e) (omega arith))
 
 module _ {n : ℕ} {out : List ℕ} {at rest next : ℕ} {out′ : List ℕ} (m : Midway n out at rest next out′) where
   -- a byte more

@@ -13,9 +13,8 @@ use Rattle.guard.specs.File.{bytes, file}
 use Rattle.guard.specs.Grammar.{fileOf}
 use Rattle.guard.specs.Guard.{Guard}
 use Rattle.guard.specs.Limits.{Limits, Supported}
-use Rattle.guard.specs.Number.{Parsed, Parsed.accepted, Parsed.refused, ask, foldSigned, unfoldSigned, unsigned, width32, _>>_, return}
+use Rattle.guard.specs.Number.{Parsed, Parsed.accepted, ask, foldSigned, unfoldSigned, unsigned, width32, _>>_, return}
 use Rattle.guard.proofs.Accepted.{source-ended}
-use Rattle.guard.proofs.Refusals.{Asks, asks-ask, asks-bind, asks-file, asks-return}
 use Rattle.guard.proofs.Reading.{Ends, Reads, fold-unfold, reads-unsigned, unfold-fold}
 use Rattle.encoding.specs.Encoding.{encoded}
 use Rattle.encoding.proofs.Parsers.{ask-inv, not-accepted}
@@ -122,15 +121,6 @@ module _ (limits : Limits) (sup : Supported limits) where
   unfolding listFile Copies as-bytes as-list
   tokens-fit zs g rest e =
       let (ks, is, fit, same, good, back) = copies-file as-list as-bytes limits sup (map foldSigned zs) g rest (all-anything (map foldSigned zs)) e in subst (All Fits) is fit
-
-  -- a list that is refused is refused by a question
-  pub list-asked : (zs : List ℤ) (q : ℕ) → listFile limits zs ≡ refused q → 0 < q
-  unfolding listFile Asks
-  list-asked zs q e = asks-file numberList (asks-bind next _ asks-next (λ w. asks-return (unsignedBy (unfoldSigned w)))) (asks-bind next _ asks-next (λ w. asks-ask 3 (leb w (width32 .most)) (return w) (omega arith) (asks-return w))) limits (map foldSigned zs) q e
-    where
-      asks-next : Asks next
-      asks-next [] q e = let same : 2 ≡ q = cc in subst (λ (n : ℕ). 0 < n) same (omega arith)
-      asks-next (w ∷ ws) q e = let z : _≡_ {A = ℕ} 0 1 = cc in absurd (omega arith)
 
   -- "an accepted file, read and written, has the same bytes"
   pub same-bytes : (bs : List ℕ) (g : Guard) (rest : List ℕ) → All (λ b. b < 256) bs → file limits bs ≡ accepted g rest → (listFile limits (numbersOf g) ≡ accepted g []) × (bytesOf g ≡ bs)

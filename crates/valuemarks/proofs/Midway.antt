@@ -138,7 +138,7 @@ literal-unmarked (is i v) = refl
 literal-unmarked (isnt i v) = refl
 
 module _ (g : Guard) where
-  abbrev lines : List Token
+  abbrev pub lines : List Token
   lines = plain (length (g .literals)) ∷ concatMap literalTokens (g .literals)
 
   abbrev rows : List Token
@@ -151,7 +151,7 @@ module _ (g : Guard) where
   until-length : length (untilLines g) ≡ length (untilRows g) + length rows
   until-length = length-append (untilRows g) rows
 
-  all-length : length (guardTokens g) ≡ length (untilLines g) + length lines
+  pub all-length : length (guardTokens g) ≡ length (untilLines g) + length lines
   all-length = ap length in-parts ∙ omega (arith, length-append (untilRows g) (rows ++ lines), length-append rows lines, until-length)
 
   front-unmarked : map markOf (untilRows g) ≡ replicate (length (untilRows g)) 0

@@ -1,0 +1,2 @@
+pub mod TokenLaws
+pub mod WriteLaws
