@@ -27,18 +27,18 @@ use Rattle.listreader.proofs.Simulation.{Agree, Same, Short, Sim, asked
 
 sim-count : (most : ℕ) → most < largest → Sim false 1 (count numberList most) (count bytes most) (Same (λ n. n ≤ most))
 sim-count most small =
-    sim-number false 0 4 (λ n. leb n most) return return (Same (λ n. n ≤ most)) refl (λ v e. omega (arith, leb-true v most e))
+    sim-number false 0 4 (λ n. leb n most) return return (Same (λ n. n ≤ most)) (omega arith) (λ v e. omega (arith, leb-true v most e))
     (λ v e. sim-return v v (Same (λ n. n ≤ most)) (refl, leb-true v most e))
 
 sim-name : (many many′ : ℕ) → many ≡ many′ → many ≤ largest → Sim false 1 (name numberList many) (name bytes many′) (Same (λ n. n < many))
 sim-name many many′ same small =
     subst (λ (k : ℕ). Sim false 1 (name numberList many) (name bytes k) (Same (λ n. n < many))) same
-    (sim-number false 0 5 (λ n. ltb n many) return return (Same (λ n. n < many)) refl (λ v e. omega (arith, ltb-true v many e))
+    (sim-number false 0 5 (λ n. ltb n many) return return (Same (λ n. n < many)) (omega arith) (λ v e. omega (arith, ltb-true v many e))
     (λ v e. sim-return v v (Same (λ n. n < many)) (refl, ltb-true v many e)))
 
 sim-kind : Sim false 1 (kind numberList) (kind bytes) (Same Any)
 sim-kind =
-    sim-number false 0 6 (λ n. ltb n 4) return return (Same Any) refl (λ v e. omega (arith, ltb-true v 4 e)) (λ v e. sim-return v v (Same Any) (refl, tt))
+    sim-number false 0 6 (λ n. ltb n 4) return return (Same Any) (omega arith) (λ v e. omega (arith, ltb-true v 4 e)) (λ v e. sim-return v v (Same Any) (refl, tt))
 
 -- ---- types
 
@@ -55,7 +55,7 @@ sim-types zero many total small fit =
     sim-room false 0 (0 + 4 * (totalVariantLimit - total)) (return []) (return []) (Same Any) (omega arith) (sim-return [] [] (Same Any) (refl, tt))
 sim-types (suc left) many total small fit =
     sim-room false (1 + (left + 4 * (totalVariantLimit - total))) (suc left + 4 * (totalVariantLimit - total)) _ _ (Same Any) (omega arith)
-    (sim-number false (left + 4 * (totalVariantLimit - total)) 4 test (after numberList) (after bytes) (Same Any) refl (λ v e. omega (arith, few v e)) (λ v e.
+    (sim-number false (left + 4 * (totalVariantLimit - total)) 4 test (after numberList) (after bytes) (Same Any) (omega arith) (λ v e. omega (arith, few v e)) (λ v e.
     let l : total + v ≤ totalVariantLimit = leb-true (total + v) totalVariantLimit (and-right (leb v variantLimit) (leb (total + v) totalVariantLimit) e) in
     sim-room false (v * 4 + (left + 4 * (totalVariantLimit - (total + v)) + 0)) (left + 4 * (totalVariantLimit - total)) (after numberList v) (after bytes v) (Same Any) (omega arith)
     (sim-bind-same false (v * 4) (left + 4 * (totalVariantLimit - (total + v)) + 0) (times v (variant numberList many)) (times v (variant bytes many)) _ _ Any (Same Any)
@@ -112,14 +112,14 @@ module _ (ts : Types) (sizes : Sizes ts) (rs ss : List Row) (alike : AlikeRows r
   sim-parts (f ∷ fs) =
       sim-room false (1 + (length fs + 0)) (length (f ∷ fs)) (parts numberList ts rs (f ∷ fs)) (parts bytes ts ss (f ∷ fs)) (Same Any) (omega arith)
       (sim-bind-same false 1 (length fs + 0) (name numberList (length rs)) (name bytes (length ss)) _ _ (λ p. p < length rs) (Same Any) sim-term
-      (λ p hp. sim-asked false (length fs + 0) 7 (eqb (typeAt ts rs p) f) (eqb (typeAt ts ss p) f) _ _ (Same Any) refl (ap (λ (t : ℕ). eqb t f) (same-typed p)) (λ e.
+      (λ p hp. sim-asked false (length fs + 0) 7 (eqb (typeAt ts rs p) f) (eqb (typeAt ts ss p) f) _ _ (Same Any) (omega arith) (ap (λ (t : ℕ). eqb t f) (same-typed p)) (λ e.
       sim-bind-same false (length fs) 0 (parts numberList ts rs fs) (parts bytes ts ss fs) _ _ Any (Same Any) (sim-parts fs)
       (λ ps h. sim-return (p ∷ ps) (p ∷ ps) (Same Any) (refl, tt)))))
 
   sim-variantTerm : Sim false 1 (variantTerm numberList ts rs) (variantTerm bytes ts ss) (Same Any)
   sim-variantTerm =
       sim-bind-same false 1 0 (name numberList (length rs)) (name bytes (length ss)) _ _ (λ p. p < length rs) (Same Any) sim-term
-      (λ a h. sim-asked false 0 7 (not (isNumber ts (typeAt ts rs a))) (not (isNumber ts (typeAt ts ss a))) _ _ (Same Any) refl (ap (λ (t : ℕ). not (isNumber ts t)) (same-typed a))
+      (λ a h. sim-asked false 0 7 (not (isNumber ts (typeAt ts rs a))) (not (isNumber ts (typeAt ts ss a))) _ _ (Same Any) (omega arith) (ap (λ (t : ℕ). not (isNumber ts t)) (same-typed a))
       (λ e. sim-return a a (Same Any) (refl, tt)))
 
   -- a variant of a term's type
@@ -135,13 +135,13 @@ module _ (ts : Types) (sizes : Sizes ts) (rs ss : List Row) (alike : AlikeRows r
   sim-row (suc zero) =
       sim-room true 2 5 (rowOf numberList ts rs 1) (rowOf bytes ts ss 1) Alike (omega arith)
       (sim-bind-same true 1 1 (name numberList (length ts)) (name bytes (length ts)) _ _ (λ t. t < length ts) Alike (sim-name (length ts) (length ts) refl (omega (arith, sizes .types)))
-      (λ t h. sim-asked true 1 7 (isNumber ts t) (isNumber ts t) _ _ Alike refl refl (λ e.
+      (λ t h. sim-asked true 1 7 (isNumber ts t) (isNumber ts t) _ _ Alike (omega arith) refl (λ e.
       sim-bind-late true 1 0 (numberList .folded) (bytes .folded) _ _ (λ a b. Unit {0}) Alike
       (λ a b u. sim-late 0 _ _ Alike (sim-return (constant t (unfoldSigned a)) (constant t (unfoldSigned b)) Alike refl)) (λ b. (refl, refl)) sim-folded)))
   sim-row (suc (suc zero)) =
       sim-late 5 (rowOf numberList ts rs 2) (rowOf bytes ts ss 2) Alike
       (sim-bind-same false 1 4 (name numberList (length ts)) (name bytes (length ts)) _ _ (λ t. t < length ts) Alike (sim-name (length ts) (length ts) refl (omega (arith, sizes .types)))
-      (λ t h. sim-asked false 4 7 (not (isNumber ts t)) (not (isNumber ts t)) _ _ Alike refl refl (λ e.
+      (λ t h. sim-asked false 4 7 (not (isNumber ts t)) (not (isNumber ts t)) _ _ Alike (omega arith) refl (λ e.
       sim-bind-same false 1 3 (name numberList (length (variantsOf ts t))) (name bytes (length (variantsOf ts t))) _ _ (λ v. v < length (variantsOf ts t)) Alike
       (sim-name (length (variantsOf ts t)) (length (variantsOf ts t)) refl (omega (arith, sizes .variants t)))
       (λ v hv. sim-bind-same false 3 0 (parts numberList ts rs (fieldsOf ts t v)) (parts bytes ts ss (fieldsOf ts t v)) _ _ Any Alike
@@ -162,7 +162,7 @@ module _ (ts : Types) (sizes : Sizes ts) (rs ss : List Row) (alike : AlikeRows r
   sim-two make =
       sim-bind-same false 1 1 (name numberList (length rs)) (name bytes (length ss)) _ _ (λ p. p < length rs) (Same Any) sim-term
       (λ i hi. sim-bind-same false 1 0 (name numberList (length rs)) (name bytes (length ss)) _ _ (λ p. p < length rs) (Same Any) sim-term
-      (λ j hj. sim-asked false 0 7 (eqb (typeAt ts rs i) (typeAt ts rs j)) (eqb (typeAt ts ss i) (typeAt ts ss j)) _ _ (Same Any) refl (ap₂ eqb (same-typed i) (same-typed j))
+      (λ j hj. sim-asked false 0 7 (eqb (typeAt ts rs i) (typeAt ts rs j)) (eqb (typeAt ts ss i) (typeAt ts ss j)) _ _ (Same Any) (omega arith) (ap₂ eqb (same-typed i) (same-typed j))
       (λ e. sim-return (make i j) (make i j) (Same Any) (refl, tt))))
 
   sim-tested : (make : ℕ → ℕ → Literal) → Sim false 2 (termAndVariant numberList ts rs make) (termAndVariant bytes ts ss make) (Same Any)
@@ -227,7 +227,7 @@ abbrev pub Answers : Bool → Parsed Guard → Parsed Guard → Type 0
 Answers cut (accepted g rest) (accepted h rest′) = AlikeGuards g h
 Answers cut (accepted g rest) (refused q) = ⊥
 Answers cut (refused q) (accepted h rest) = ⊥
-Answers cut (refused q) (refused q′) = q ≡ asked cut q′
+Answers cut (refused q) (refused q′) = (q ≡ asked cut q′) × (0 < q)
 
 module _ (limits : Limits) (sup : Supported limits) where
   abbrev guard : Types → List Row → List Literal → Guard
@@ -265,7 +265,7 @@ module _ (limits : Limits) (sup : Supported limits) where
       (sim-gives false (limits .types + 4 * totalVariantLimit) (types numberList many many 0) (types bytes many many 0) Any (TypesFit many many 0) (tidy-types many many 0 (omega arith))
       (sim-room false (many + 4 * (totalVariantLimit - 0)) (limits .types + 4 * totalVariantLimit) (types numberList many many 0) (types bytes many many 0) (Same Any) (omega arith)
       (sim-types many many 0 (omega (arith, sup .types)) (omega arith))))
-      (λ ts fit. sim-asked false _ 8 (allDefaults ts) (allDefaults ts) _ _ AlikeGuards refl refl (λ e8. sim-asked false _ 9 (infiniteFields ts) (infiniteFields ts) (terms numberList ts) (terms bytes ts) AlikeGuards refl refl (λ e9.
+      (λ ts fit. sim-asked false _ 8 (allDefaults ts) (allDefaults ts) _ _ AlikeGuards (omega arith) refl (λ e8. sim-asked false _ 9 (infiniteFields ts) (infiniteFields ts) (terms numberList ts) (terms bytes ts) AlikeGuards (omega arith) refl (λ e9.
       sim-terms ts (sizes-of many ts (omega (arith, sup .types)) fit))))))
 
   pub simulated : (ws : List ℕ) (n : ℕ) → mostNumbers limits ≤ n → Answers (wideIn n ws) (fileOf numberList limits ws) (file limits (plainOf n ws))

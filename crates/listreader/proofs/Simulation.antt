@@ -7,7 +7,7 @@ use native.Mathlib.Omega.{arith}
 use native.Mathlib.Nat.{suc-mul}
 use lib.Dec.{leb, eqb}
 use lib.IntN.{ℤ, pos, negsuc}
-use borrow.Author.Tests.{le-leb}
+use borrow.Author.Tests.{le-leb, ne-eqb}
 use Rattle.guard.specs.Grammar.{ended}
 use Rattle.guard.specs.Number.{Parsed, Parsed.accepted, Parsed.refused, Parser, _>>=_, _>>_, andThen, ask, foldSigned, return, times, unfoldSigned, unsigned, width32}
 use Rattle.guard.proofs.Reading.{fold-unfold}
@@ -16,19 +16,20 @@ use Rattle.serialize.specs.NumberList.{numberList, unsignedBy}
 use Rattle.numbers.proofs.Tidy.{Any, Tidy}
 use Rattle.listreader.specs.Plain.{largest, plainByte, plainOf, wide, wideIn}
 
--- a question that is not 2, and 2 is 3 where the bytes stopped at a wide number
+-- the question that refuses a list, from the one that refuses its bytes: where these stopped at a wide number, 3 for 2
 abbrev pub asked : Bool → ℕ → ℕ
 asked cut q = cond (cut && eqb q 2) 3 q
 
--- How the answers of the two parsers agree. Both accept values in the relation R, and leave a list and its plain bytes, with at least m
--- numbers. Or both refuse. Or the list is refused for a wide number, and the bytes, accepted, stop there (only if `late` allows it).
+-- How the answers of the two parsers agree, where `cut` says whether the bytes stopped at a wide number. Both accept values in the
+-- relation R, and leave a list and its plain bytes, with room for at least m numbers. Or both refuse, with a question's number. Or,
+-- where `late` allows it, a wide value is refused in the list and accepted as the last byte.
 abbrev pub Agree : {A B : Type 0} → Bool → ℕ → Bool → (A → B → Type 0) → Parsed A → Parsed B → Type 0
 Agree late m cut R (accepted a ws) (accepted b bs) = (n : ℕ) × (bs ≡ plainOf n ws) × (m ≤ n) × (wideIn n ws ≡ cut) × R a b
 Agree late m cut R (accepted a ws) (refused q) = ⊥
 Agree late m cut R (refused q) (accepted b bs) = (late ≡ true) × (q ≡ 3) × (cut ≡ true) × (bs ≡ [])
-Agree late m cut R (refused q) (refused r) = q ≡ asked cut r
+Agree late m cut R (refused q) (refused r) = (q ≡ asked cut r) × (0 < q)
 
--- the parsers agree on every list, if their plain bytes have room for k numbers
+-- the parsers agree on every list, if its plain bytes have room for k numbers more than are to be left
 unfoldable pub Sim : {A B : Type 0} → Bool → ℕ → Parser A → Parser B → (A → B → Type 0) → Type 0
 Sim late k p p′ R = (ws : List ℕ) (n m : ℕ) → k + m ≤ n → Agree late m (wideIn n ws) R (p ws) (p′ (plainOf n ws))
 
@@ -42,9 +43,13 @@ Short late (refused q) = q ≡ 2
 Short late (accepted b bs) = (late ≡ true) × (bs ≡ [])
 
 -- any question but 2 stays what it is
-pub unchanged : (cut : Bool) (q : ℕ) → eqb q 2 ≡ false → q ≡ asked cut q
-unchanged true q other = rw other refl
+pub unchanged : (cut : Bool) (q : ℕ) → ¬ (q ≡ 2) → q ≡ asked cut q
+unchanged true q other = rw (ne-eqb q 2 other) refl
 unchanged false q other = refl
+
+-- a question after the first two, asked of both
+both-refuse : (cut : Bool) (q : ℕ) → 2 < q → (q ≡ asked cut q) × (0 < q)
+both-refuse cut q later = (unchanged cut q (λ e. omega arith), omega arith)
 
 -- ---- plain bytes
 
@@ -87,7 +92,7 @@ module _ {A B C D : Type 0} (late : Bool) (j k : ℕ) (p : Parser A) (p′ : Par
   sim-bind-late short hp ws n m h = go (p ws) (p′ (plainOf n ws)) (hp ws n (k + m) (omega arith))
     where
       at-end : (q : ℕ) (r : Parsed D) → q ≡ 3 → wideIn n ws ≡ true → Short late r → Agree late m (wideIn n ws) S (refused q) r
-      at-end q (refused q′) e c s = e ∙ rw (c, s) refl
+      at-end q (refused q′) e c s = (e ∙ rw (c, s) refl, omega arith)
       at-end q (accepted d bs) e c s = (s .0, e, c, s .1)
 
       go : (r : Parsed A) (r′ : Parsed B) → Agree true (k + m) (wideIn n ws) R r r′ → Agree late m (wideIn n ws) S (andThen f r) (andThen f′ r′)
@@ -112,6 +117,7 @@ module _ {A B : Type 0} where
   unfolding Sim
   sim-room late j k p p′ R l hp ws n m h = hp ws n m (omega arith)
 
+  -- no wide value comes last, where one might
   pub sim-late : (k : ℕ) (p : Parser A) (p′ : Parser B) (R : A → B → Type 0) → Sim false k p p′ R → Sim true k p p′ R
   unfolding Sim
   sim-late k p p′ R hp ws n m h = go (p ws) (p′ (plainOf n ws)) (hp ws n m h)
@@ -123,14 +129,14 @@ module _ {A B : Type 0} where
       go (accepted a ws′) (accepted b bs) e = e
 
   -- the same question of both
-  pub sim-asked : (late : Bool) (k q : ℕ) (x y : Bool) (p : Parser A) (p′ : Parser B) (R : A → B → Type 0) → eqb q 2 ≡ false → x ≡ y
+  pub sim-asked : (late : Bool) (k q : ℕ) (x y : Bool) (p : Parser A) (p′ : Parser B) (R : A → B → Type 0) → 2 < q → x ≡ y
       → (x ≡ true → Sim late k p p′ R) → Sim late k (ask q x >> p) (ask q y >> p′) R
   unfolding Sim
-  sim-asked late k q x y p p′ R other xy hp = subst (λ (z : Bool). Sim late k (ask q x >> p) (ask q z >> p′) R) xy (by x hp)
+  sim-asked late k q x y p p′ R later xy hp = subst (λ (z : Bool). Sim late k (ask q x >> p) (ask q z >> p′) R) xy (by x hp)
     where
       by : (x : Bool) → (x ≡ true → Sim late k p p′ R) → Sim late k (ask q x >> p) (ask q x >> p′) R
       by true hp = hp refl
-      by false hp = λ ws n m h. unchanged (wideIn n ws) q other
+      by false hp = λ ws n m h. both-refuse (wideIn n ws) q later
 
 -- what the second parser's values satisfy, where both have equal ones
 pub sim-gives : {A : Type 0} (late : Bool) (k : ℕ) (p p′ : Parser A) (P Q : A → Type 0) → Tidy p′ Q → Sim late k p p′ (Same P) → Sim late k p p′ (Same Q)
@@ -146,7 +152,7 @@ sim-gives {A} late k p p′ P Q t hp ws n m h = go (p ws) (p′ (plainOf n ws)) 
 -- ---- one number
 
 -- as a count, a name or a kind: no number that passes the test is large
-module _ {A B : Type 0} (late : Bool) (k q : ℕ) (test : ℕ → Bool) (f : ℕ → Parser A) (f′ : ℕ → Parser B) (R : A → B → Type 0) (other : eqb q 2 ≡ false)
+module _ {A B : Type 0} (late : Bool) (k q : ℕ) (test : ℕ → Bool) (f : ℕ → Parser A) (f′ : ℕ → Parser B) (R : A → B → Type 0) (later : 2 < q)
     (small : (v : ℕ) → test v ≡ true → v < largest) (hf : (v : ℕ) → test v ≡ true → Sim late k (f v) (f′ v) R) where
   -- the number v, with the byte b, and what follows both
   number-step : (v b : ℕ) → b ≡ min v largest → (n m : ℕ) (ws : List ℕ) (w : Bool) → k + m ≤ n → (v < largest → w ≡ false)
@@ -159,7 +165,7 @@ module _ {A B : Type 0} (late : Bool) (k q : ℕ) (test : ℕ → Bool) (f : ℕ
           let l : v < largest = small v e in
           let vb : b ≡ v = is ∙ omega arith in
           rw (vb, fits l, e) (hf v e ws n m room)
-      by false e = rw (e, no (test b) refl) (unchanged (cond w true (wideIn n ws)) q other)
+      by false e = rw (e, no (test b) refl) (both-refuse (cond w true (wideIn n ws)) q later)
         where
           no : (y : Bool) → test b ≡ y → test b ≡ false
           no false e′ = e′
@@ -171,14 +177,14 @@ module _ {A B : Type 0} (late : Bool) (k q : ℕ) (test : ℕ → Bool) (f : ℕ
   pub sim-number : Sim late (1 + k) (numberList .number >>= λ v. ask q (test v) >> f v) (unsigned >>= λ v. ask q (test v) >> f′ v) R
   unfolding Sim
   sim-number ws zero m h = absurd (omega arith)
-  sim-number [] (suc n) m h = refl
+  sim-number [] (suc n) m h = (refl, omega arith)
   sim-number (w ∷ ws) (suc n) m h = rw (plain-read w (cond (wide w) [] (plainOf n ws))) (number-step (unsignedBy (unfoldSigned w)) (plainByte w) refl n m ws (wide w) (omega arith) (narrow w))
 
 -- as a value: a wide one is refused in the list, and ends the bytes
 pub sim-folded : Sim true 1 (numberList .folded) unsigned (λ a b. Unit {0})
 unfolding Sim
 sim-folded ws zero m h = absurd (omega arith)
-sim-folded [] (suc n) m h = refl
+sim-folded [] (suc n) m h = (refl, omega arith)
 sim-folded (w ∷ ws) (suc n) m h = rw (plain-read w (cond (wide w) [] (plainOf n ws))) (by (leb w (width32 .most)))
   where
     by : (x : Bool) → Agree true m (cond (not x) true (wideIn n ws)) (λ (a b : ℕ). Unit {0}) ((ask 3 x >> return w) ws) (accepted (plainByte w) (cond (not x) [] (plainOf n ws)))
@@ -201,4 +207,4 @@ pub sim-ended : Sim false 1 ended ended (Same Any)
 unfolding Sim
 sim-ended ws zero m h = absurd (omega arith)
 sim-ended [] (suc n) m h = (suc n, refl, omega arith, refl, (refl, tt))
-sim-ended (w ∷ ws) (suc n) m h = unchanged (wideIn (suc n) (w ∷ ws)) 10 refl
+sim-ended (w ∷ ws) (suc n) m h = both-refuse (wideIn (suc n) (w ∷ ws)) 10 (omega arith)
