@@ -2,18 +2,16 @@
 use mathlib.Core.Path.{_≡_, refl, ap, sym, subst, _∙_}
 use mathlib.Core.Bool.{true, false}
 use mathlib.Core.List.{List, [], _∷_, _++_, append-nil, map}
-use Prim.Native.Nat.{ℕ, zero, suc, _+_, _^_, _≤_, _<_}
+use Prim.Native.Nat.{ℕ, zero, suc, _+_, _≤_, _<_}
 use native.Mathlib.Omega.{arith}
 use lib.IntN.{ℤ, pos, negsuc}
 use lib.ListN.{length, getD, drop, take, length-map}
 use lib.Seq.{take-all}
 use mir.Syntax.{w32}
 use mir.Val.{SFits}
-use Rattle.laws.specs.All.{All}
 use Rattle.laws.specs.Lists.{concatMap}
 use Rattle.laws.proofs.Lists.{all-getD}
 use Rattle.guard.specs.Number.{foldSigned}
-use Rattle.tables.specs.Layout.{pad}
 use Rattle.tables.proofs.Columns.{pad-get}
 use Rattle.tables.proofs.Lookups.{map-at}
 use Rattle.encoding.specs.Encoding.{encoded}
@@ -79,7 +77,7 @@ module _ {list : List ℤ} {marks : List ℕ} {ks : List Token} (m : Marked list
     written-is x e n w = w .is (tokenAt ks i) (sym e ∙ number-is) mark-is
 
     module _ {out out′ : List ℕ} {at : ℕ} (p : Puts (bytes (take i ks)) out 0 (record { fits = true; at = at }) out′) (x : ℤ) (ex : getD list i (pos 0) ≡ x) (n : ℕ) (w : WrittenAs x (getD marks i 0) n)
-             {r : End} {out″ : List ℕ} (q : Puts (encoded n) out′ at r out″) where
+        {r : End} {out″ : List ℕ} (q : Puts (encoded n) out′ at r out″) where
       one-more : Puts (bytes (take (suc i) ks)) out 0 r out″
       one-more =
           same-bytes (and-then p refl q)

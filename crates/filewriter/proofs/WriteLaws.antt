@@ -1,14 +1,12 @@
 -- A list that is taken: its guard, its tokens, and the tables that its reader gave. Assumes nothing.
 use mathlib.Core.Path.{_≡_, refl, ap, ap₂, sym, subst, _∙_}
 use mathlib.Core.Bool.{Bool, true, false, cond}
-use mathlib.Core.List.{List, [], _∷_, _++_, map}
-use Prim.Native.Nat.{ℕ, zero, suc, _+_, _*_, _-_, _≤_, _<_}
+use mathlib.Core.List.{List, [], _∷_, map}
+use Prim.Native.Nat.{ℕ, _+_, _*_, _-_, _≤_}
 use native.Mathlib.Omega.{arith}
-use lib.Dec.{leb}
 use lib.IntN.{ℤ}
 use lib.ListN.{length, replicate, length-append, length-map}
 use Rattle.laws.specs.Lists.{concatMap}
-use Rattle.laws.proofs.Lists.{map-map}
 use Rattle.guard.specs.Guard.{Guard, Literal, Literal.equal, Literal.is, Literal.isnt, Literal.unequal, Row, Row.built, Row.constant, Row.field, Row.variable, typeOf}
 use Rattle.guard.specs.Limits.{base}
 use Rattle.guard.specs.Number.{Parsed, Parsed.accepted, Parsed.refused}
@@ -22,7 +20,7 @@ use Rattle.reader.specs.Reader.{guardTables, noTables}
 use Rattle.encoding.specs.Encoding.{encoded}
 use Rattle.encoding.proofs.ReadBack.{one-at-least}
 use Rattle.serialize.specs.NumberList.{listFile}
-use Rattle.serialize.specs.Tokens.{Token, Token.plain, bytesOf, guardTokens, listed, literalTokens, numbersOf, unsignedOf}
+use Rattle.serialize.specs.Tokens.{Token, bytesOf, guardTokens, listed, literalTokens, numbersOf, unsignedOf}
 use Rattle.serialize.proofs.Theorems.{read-as-list, tokens-fit}
 use Rattle.bytebuffer.specs.declared.End.{End}
 use Rattle.bytebuffer.specs.Puts.{Puts}
@@ -31,7 +29,6 @@ use Rattle.listreader.specs.ListReader.{ReadsList, valueless, valuelessRow, val
 use Rattle.listreader.proofs.ListReaderLaws.{list-question}
 use Rattle.valuemarks.specs.Marks.{Listed, marksOf, room, untilLines}
 use Rattle.valuemarks.proofs.Midway.{all-length, lines}
-use Rattle.filewriter.specs.declared.FileWritten.{FileWritten}
 use Rattle.filewriter.specs.Writer.{Marked, answerTo, leftBy}
 use Rattle.filewriter.proofs.TokenLaws.{bytes}
 

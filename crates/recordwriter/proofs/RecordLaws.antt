@@ -1,11 +1,10 @@
 -- The whole record: the root begins with what is given, and the buffer holds the record and zeros, or zeros alone. Assumes nothing.
 use mathlib.Core.Path.{_≡_, refl, ap, ap₂, sym, _∙_}
 use mathlib.Core.Bool.{Bool, true, false, cond}
-use mathlib.Core.List.{List, [], _++_, foldl}
-use Prim.Native.Nat.{ℕ, zero, suc, _+_, _-_}
-use native.Mathlib.Omega.{arith}
+use mathlib.Core.List.{List, [], foldl}
+use Prim.Native.Nat.{ℕ, _-_}
 use lib.Dec.{leb}
-use lib.ListN.{length, take, drop, replicate, length-replicate}
+use lib.ListN.{length, take, replicate}
 use lib.Seq.{take-at}
 use Rattle.laws.proofs.Bools.{by-test}
 use Rattle.guard.specs.Closure.{State, add}
@@ -19,7 +18,6 @@ use Rattle.search.specs.Nodes.{Accepted, GuardsTables}
 use Rattle.search.proofs.RootLaws.{arrays-of, givenIn, root-begun}
 use Rattle.refutations.specs.Record.{recordBytes, recordOf}
 use Rattle.bytebuffer.specs.declared.End.{End}
-use Rattle.bytebuffer.specs.Puts.{filled}
 use Rattle.bytebuffer.proofs.FillLaws.{ends-there, filled-with, fills, fits-room, outgrows}
 use Rattle.recordwriter.specs.declared.Written.{Written}
 use Rattle.nodewriter.specs.Writes.{Writes}

@@ -9,11 +9,11 @@ use lib.ListN.{length, length-append}
 use borrow.Author.Tests.{leb-true, ltb-true}
 use Rattle.laws.specs.All.{All, All.more, All.none}
 use Rattle.laws.specs.Lists.{concatMap}
-use Rattle.laws.proofs.Bools.{and-left, and-right}
+use Rattle.laws.proofs.Bools.{and-left}
 use Rattle.guard.specs.Grammar.{Source, count, ended, fileOf, kind, literal, literalOf, name, parts, rowOf, rows, termAndVariant, twoTerms, types, variant, variantTerm}
 use Rattle.guard.specs.Guard.{Guard, Literal, Literal.equal, Literal.is, Literal.isnt, Literal.unequal, Row, Row.built, Row.constant, Row.field, Row.variable, typeAt}
 use Rattle.guard.specs.Limits.{Limits, Supported, fieldLimit, totalVariantLimit, variantLimit}
-use Rattle.guard.specs.Number.{Parsed.accepted, Parser, _>>=_, _>>_, ask, return, times, unfoldSigned, width32}
+use Rattle.guard.specs.Number.{Parsed.accepted, Parser, _>>_, return, times, unfoldSigned, width32}
 use Rattle.guard.specs.Types.{Types, Variant, allDefaults, fieldsOf, infiniteFields, isNumber, variantsOf}
 use Rattle.guard.proofs.Accepted.{TypeFits, VariantFits, types-at, variants-at}
 use Rattle.serialize.specs.Tokens.{Token, Token.plain, Token.value, guardTokens, literalTokens, rowTokens, typeTokens, variantTokens}

@@ -9,7 +9,7 @@ use Rattle.laws.specs.All.{All, All.more, All.none}
 use Rattle.laws.specs.Lists.{concatMap}
 use Rattle.laws.proofs.Lists.{all-append}
 use Rattle.guard.specs.Grammar.{Source}
-use Rattle.guard.specs.Number.{Parsed, Parsed.accepted, Parsed.refused, Parser, _>>=_, _>>_, andThen, ask, return, times, unfoldSigned, width32}
+use Rattle.guard.specs.Number.{Parsed.accepted, Parser, _>>=_, _>>_, andThen, ask, return, times, unfoldSigned, width32}
 use Rattle.guard.proofs.Reading.{fold-unfold}
 use Rattle.encoding.proofs.Parsers.{ask-inv, bind-inv}
 use Rattle.serialize.specs.Tokens.{Fits, Token, Token.plain, Token.value}

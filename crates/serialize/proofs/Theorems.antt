@@ -8,19 +8,19 @@ use lib.IntN.{ℤ, pos, negsuc}
 use borrow.Author.Tests.{le-leb, leb-true}
 use Rattle.laws.specs.All.{All, All.more, All.none}
 use Rattle.laws.specs.Lists.{concatMap}
-use Rattle.laws.proofs.Lists.{all-right, map-map}
+use Rattle.laws.proofs.Lists.{all-right}
 use Rattle.guard.specs.File.{bytes, file}
 use Rattle.guard.specs.Grammar.{fileOf}
 use Rattle.guard.specs.Guard.{Guard}
 use Rattle.guard.specs.Limits.{Limits, Supported}
-use Rattle.guard.specs.Number.{Parsed, Parsed.accepted, ask, foldSigned, unfoldSigned, unsigned, width32, _>>_, return}
+use Rattle.guard.specs.Number.{Parsed.accepted, foldSigned, unfoldSigned, unsigned, width32, return}
 use Rattle.guard.proofs.Accepted.{source-ended}
 use Rattle.guard.proofs.Reading.{Ends, Reads, fold-unfold, reads-unsigned, unfold-fold}
 use Rattle.encoding.specs.Encoding.{encoded}
 use Rattle.encoding.proofs.Parsers.{ask-inv, not-accepted}
 use Rattle.encoding.proofs.ReadBack.{read-back}
 use Rattle.encoding.proofs.WrittenBack.{written-back}
-use Rattle.serialize.specs.NumberList.{beyond, fits, listFile, next, numberList, unsignedBy}
+use Rattle.serialize.specs.NumberList.{fits, listFile, numberList, unsignedBy}
 use Rattle.serialize.specs.Tokens.{Fits, Token, bytesOf, guardTokens, listed, numbersOf, unsignedOf}
 use Rattle.serialize.proofs.Copying.{Copies, Form}
 use Rattle.serialize.proofs.CopiedFile.{copies-file}

@@ -1,6 +1,6 @@
 -- Lists for the cases of document 01, and lists that are refused. Assumes nothing.
 use mathlib.Core.Path.{_≡_, refl}
-use mathlib.Core.List.{List, [], _∷_, _++_, map}
+use mathlib.Core.List.{List, [], _∷_, map}
 use Prim.Native.Nat.{ℕ}
 use lib.IntN.{ℤ, pos, negsuc}
 use Rattle.guard.specs.Cases.{fileC, fileH, fileJ}
@@ -8,7 +8,7 @@ use Rattle.guard.specs.Guard.{Guard}
 use Rattle.guard.specs.Limits.{base}
 use Rattle.guard.specs.Number.{Parsed, Parsed.accepted, Parsed.refused}
 use Rattle.encoding.specs.Encoding.{encoded}
-use Rattle.serialize.specs.Tokens.{bytesOf, guardTokens, numbersOf}
+use Rattle.serialize.specs.Tokens.{bytesOf, guardTokens}
 use Rattle.serialize.specs.NumberList.{listFile}
 
 -- a list, the question that refuses it or 0, and its bytes

@@ -6,8 +6,8 @@ use native.Mathlib.Omega.{arith}
 use lib.ListN.{length, drop, take, replicate, set, drop-of-length-le, length-append, length-map, length-replicate}
 use lib.Seq.{take-all}
 use Rattle.laws.specs.Lists.{concatMap}
-use Rattle.guard.specs.Guard.{Guard, Literal, Literal.equal, Literal.is, Literal.isnt, Literal.unequal, Row, Row.built, Row.constant, Row.field, Row.variable, noRow, rowAt}
-use Rattle.guard.specs.Types.{Types, Variant}
+use Rattle.guard.specs.Guard.{Guard, Literal, Literal.equal, Literal.is, Literal.isnt, Literal.unequal, Row, Row.built, Row.constant, Row.field, Row.variable, rowAt}
+use Rattle.guard.specs.Types.{Variant}
 use Rattle.tables.specs.Layout.{rowKind}
 use Rattle.serialize.specs.Tokens.{Token, Token.plain, guardTokens, literalTokens, rowTokens, typeTokens, variantTokens}
 use Rattle.serialize.proofs.Copying.{concatMap-append}

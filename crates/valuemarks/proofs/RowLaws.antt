@@ -1,7 +1,7 @@
 -- The numbers of a row, by what the tables say of it. Assumes nothing.
-use mathlib.Core.Path.{_≡_, refl, ap, sym, _∙_, subst}
-use mathlib.Core.List.{List, [], _∷_, _++_, map}
-use Prim.Native.Nat.{ℕ, zero, suc, _+_, _≤_, _<_}
+use mathlib.Core.Path.{_≡_, refl, ap, _∙_}
+use mathlib.Core.List.{List}
+use Prim.Native.Nat.{ℕ, _+_, _≤_, _<_}
 use native.Mathlib.Omega.{arith}
 use lib.ListN.{length, getD, length-map}
 use Rattle.guard.specs.Guard.{Guard, Row, Row.built, Row.constant, Row.field, Row.variable, rowAt, typeAt, typeOf}
@@ -9,9 +9,9 @@ use Rattle.guard.specs.Types.{Types, fieldsOf, variantsOf}
 use Rattle.guard.specs.WellFormed.{RowFits}
 use Rattle.tables.specs.declared.RowTable.{RowTable}
 use Rattle.tables.specs.declared.TypeTable.{TypeTable}
-use Rattle.tables.specs.Layout.{flat, rowKind, rowVariant, typeTable}
+use Rattle.tables.specs.Layout.{rowKind, rowVariant, typeTable}
 use Rattle.tables.proofs.Lookups.{arity-at, first-at, offset-inside, offsetOf, row-kind-at, row-type-at, row-variant-at}
-use Rattle.serialize.specs.Tokens.{Token, Token.plain, rowTokens}
+use Rattle.serialize.specs.Tokens.{Token.plain, rowTokens}
 use Rattle.valuemarks.specs.Marks.{Listed}
 
 -- ---- by kind

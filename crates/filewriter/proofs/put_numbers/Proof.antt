@@ -2,9 +2,9 @@
 use mathlib.Core.Path.{_≡_, sym, _∙_}
 use mathlib.Core.Bool.{true}
 use mathlib.Core.List.{List}
-use Prim.Native.Nat.{ℕ, _+_, _-_, _≤_, _<_}
+use Prim.Native.Nat.{_-_, _≤_}
 use native.Mathlib.Omega.{arith}
-use lib.IntN.{ℤ, pos}
+use lib.IntN.{pos}
 use lib.ListN.{getD, length, take}
 use mir.Syntax.{w64}
 use mir.Val.{SFits, ofZ, toZ}
@@ -77,9 +77,12 @@ loop-again c =
     let p = c .before .before .before .before in
     let w = p .before .before in
     let l = w .before .before .before .before .loop in
-    let f : p .put-number .result .fits ≡ true = not-false _ (c .if1 .left) in
-    (omega arith, p .put-number .ensures .long ∙ l .inv .1, ends-within (p .put-number .ensures) f,
-      λ ks m. next-puts m (l .i) (omega arith) (l .inv .3 ks m) _ (at (w .before .before)) (w .written-number .result) (w .written-number .ensures) (p .put-number .ensures) f)
+    let f : p .put-number .result .fits ≡ true = not-false _ (c .if1 .left) in (
+      omega arith,
+      p .put-number .ensures .long ∙ l .inv .1,
+      ends-within (p .put-number .ensures) f,
+      λ ks m. next-puts m (l .i) (omega arith) (l .inv .3 ks m) _ (at (w .before .before)) (w .written-number .result) (w .written-number .ensures) (p .put-number .ensures) f,
+    )
 
 same-length-2 : tie.Need-same-length-2 Inv-loop μ-loop
 same-length-2 c = c .before .loop .inv .1

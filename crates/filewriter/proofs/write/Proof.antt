@@ -1,84 +1,101 @@
+-- `write` meets its contract. Assumes nothing.
+use mathlib.Core.Path.{_≡_, refl, _∙_}
+use mathlib.Core.List.{List}
+use Prim.Native.Nat.{ℕ, _*_, _-_}
+use native.Mathlib.Omega.{arith}
+use lib.IntN.{ℤ}
+use lib.ListN.{length}
 use borrow.Author.Needs.{needs}
+use borrow.Author.Tests.{not-false, not-true}
+use Rattle.reader.specs.declared.Tables.{Tables}
+use Rattle.guard.specs.Limits.{base}
+use Rattle.serialize.specs.NumberList.{listFile}
+use Rattle.serialize.specs.Tokens.{guardTokens}
+use Rattle.valuemarks.specs.Marks.{untilLines}
+use Rattle.filewriter.specs.Writer.{Marked}
+use Rattle.filewriter.proofs.WriteLaws.{Taken, all-marked, lines-few, list-length, listed-tables, refused-answer, refused-left, short-answer, short-left, taken, written-answer, written-left}
 use Rattle.filewriter.proofs.write.Statement.{statement}
 use Rattle.filewriter.proofs.write.Tie as tie
-use Rattle.filewriter.proofs.write.Reads as reads
-use Rattle.filewriter.proofs.write.Lts as lts
-use Rattle.bytebuffer.proofs.clear.Reads as clear-reads
-use Rattle.filewriter.proofs.put_numbers.Reads as put-numbers-reads
-use Rattle.listreader.proofs.read_list.Reads as read-list-reads
-use Rattle.valuemarks.proofs.mark_values.Reads as mark-values-reads
 
--- src/lib.rt:53:5
-clear-requires : tie.Need-clear-requires
-clear-requires c κs = search needs
+-- the buffer is cleared before the list is read
+abbrev cleared-of : tie.After-read-list → tie.After-clear
+cleared-of c = c .before .before .before
 
--- src/lib.rt:54:9
-read-list-requires : tie.Need-read-list-requires
-read-list-requires c κs = search needs
+abbrev list-of : tie.After-read-list → List ℤ
+list-of c = cleared-of c .before .before .before .args .list .now
 
--- src/lib.rt:56:9
-same-length : tie.Need-same-length
-same-length c = search needs
+abbrev out-of : tie.After-read-list → List ℕ
+out-of c = cleared-of c .before .before .before .args .out .now
 
--- src/lib.rt:56:9
 returns : tie.Need-returns
-returns c = ?
+returns c =
+    let r = c .before .before in
+    let h : ¬ (r .read-list .result .refused ≡ 0) = c .if1 .taken in
+    (refused-answer (listFile base (list-of r)) (r .read-list .result) (length (out-of r)) (r .read-list .ensures) h, cleared-of r .clear .ensures ∙ refused-left (listFile base (list-of r)) (r .read-list .result) (length (out-of r)) (r .read-list .ensures) h)
 
--- src/lib.rt:63:20
+-- the list is taken
+taken-by : (c : tie.Else1) → Taken (list-of (c .before .before)) (c .before .before .read-list .result)
+taken-by c = taken _ _ (c .before .before .read-list .ensures) (c .if1 .left)
+
 sub-rows-end : tie.Need-sub-rows-end
-sub-rows-end c = ?
+sub-rows-end c = omega (arith, list-length (taken-by (c .before)))
 
--- src/lib.rt:63:37
 mul-rows-end : tie.Need-mul-rows-end
-mul-rows-end c = ?
+mul-rows-end c = omega (arith, lines-few (taken-by (c .before .before)))
 
--- src/lib.rt:63:20
 sub-rows-end-2 : tie.Need-sub-rows-end-2
-sub-rows-end-2 c = ?
+sub-rows-end-2 c = omega (arith, list-length (taken-by (c .before .before)))
 
--- src/lib.rt:65:5
+rows-end : {zs : List ℤ} {t : Tables} (k : Taken zs t) → length zs - 1 - 3 * t .literals .many ≡ length (untilLines (k .guard))
+rows-end k = omega (arith, list-length k)
+
 mark-values-requires : tie.Need-mark-values-requires
-mark-values-requires c κs = ?
+mark-values-requires c κs = let k = taken-by (c .before .before .before) in record { guard = k .guard; listed = listed-tables k; ends = rows-end k; blank = refl }
 
--- src/lib.rt:66:9
+-- the tokens of the list, with their marks
+marked-by : (c : tie.After-mark-values) → Marked (list-of (c .before .before .before .before .before .before)) (c .mark-values .last .1 .1 .1 .0) (guardTokens (taken-by (c .before .before .before .before) .guard))
+marked-by c = let k = taken-by (c .before .before .before .before) in all-marked k _ (c .mark-values .ensures .are (k .guard) (listed-tables k) (rows-end k))
+
 put-numbers-requires : tie.Need-put-numbers-requires
-put-numbers-requires c κs = ?
+put-numbers-requires c κs = record { tokens = _; marked = marked-by (c .before .before) }
 
--- src/lib.rt:68:9
-clear-requires-2 : tie.Need-clear-requires-2
-clear-requires-2 c κs = search needs
-
--- src/lib.rt:69:9
-same-length-2 : tie.Need-same-length-2
-same-length-2 c = search needs
-
--- src/lib.rt:69:9
 returns-2 : tie.Need-returns-2
-returns-2 c = ?
+returns-2 c =
+    let cl = c .before .before in
+    let t = cl .before .before in
+    let p = t .before .before .before .before in
+    let m = p .before .before .before in
+    let k = taken-by (m .before .before .before .before) in
+    let r = m .before .before .before .before .before .before in
+    let w = p .put-numbers .ensures .puts _ (marked-by m) in
+    let f = not-true _ (t .if2 .taken) in
+    (short-answer k (out-of r) (cleared-of r .clear .ensures) w f, short-left k (out-of r) (cleared-of r .clear .ensures) w f (cl .clear2 .ensures))
 
--- src/lib.rt:49:1
-same-length-3 : tie.Need-same-length-3
-same-length-3 c = search needs
-
--- src/lib.rt:49:1
 returns-3 : tie.Need-returns-3
-returns-3 c = ?
+returns-3 c =
+    let p = c .before .before .before .before in
+    let m = p .before .before .before in
+    let k = taken-by (m .before .before .before .before) in
+    let r = m .before .before .before .before .before .before in
+    let w = p .put-numbers .ensures .puts _ (marked-by m) in
+    let f = not-false _ (c .if2 .left) in
+    (written-answer k (out-of r) (cleared-of r .clear .ensures) w f, written-left k (out-of r) (cleared-of r .clear .ensures) w f)
 
 pub write-spec : {M : Type 1} → statement M
 write-spec =
     tie.close
     (tie.spec
-    clear-requires
-    read-list-requires
-    same-length
+    (λ c κs. search needs)
+    (λ c κs. search needs)
+    (λ c. search needs)
     returns
     sub-rows-end
     mul-rows-end
     sub-rows-end-2
     mark-values-requires
     put-numbers-requires
-    clear-requires-2
-    same-length-2
+    (λ c κs. search needs)
+    (λ c. search needs)
     returns-2
-    same-length-3
+    (λ c. search needs)
     returns-3)

@@ -1,13 +1,11 @@
 -- `written_number` meets its contract. Assumes nothing.
 use mathlib.Core.Path.{_≡_, ap, sym, subst, _∙_}
-use Prim.Native.Nat.{ℕ, _≤_}
 use native.Mathlib.Omega.{arith}
-use lib.IntN.{ℤ, natAbs, pos}
+use lib.IntN.{natAbs}
 use mir.Syntax.{w32, w64}
 use mir.Val.{SFits, ofZ, toZ}
 use mir.Facts.{toZ-ofZ}
 use borrow.Author.Needs.{needs}
-use Rattle.serialize.specs.Tokens.{unsignedOf}
 use Rattle.guard.specs.Number.{foldSigned}
 use Rattle.filewriter.proofs.TokenLaws.{plain-listed, value-fits, value-folded}
 use Rattle.filewriter.proofs.written_number.Statement.{statement}

@@ -9,7 +9,7 @@ use Rattle.laws.proofs.Bools.{either}
 use Rattle.guard.specs.Guard.{Guard}
 use Rattle.tables.specs.declared.RowTable.{RowTable}
 use Rattle.tables.specs.declared.TypeTable.{TypeTable}
-use Rattle.valuemarks.specs.Marks.{Listed, RowNumbers, Unmarked, untilLines}
+use Rattle.valuemarks.specs.Marks.{Listed, RowNumbers, untilLines}
 use Rattle.valuemarks.proofs.Midway.{Midway, at-inside, back, begin, finish, next-plain, next-value, some-before}
 use Rattle.valuemarks.proofs.RowLaws.{kind-is}
 use Rattle.valuemarks.proofs.mark_values.Statement.{statement}
