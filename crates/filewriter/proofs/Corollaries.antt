@@ -1,0 +1,57 @@
+-- Request #102, of what `write` answers and leaves. Assumes nothing.
+use mathlib.Core.Path.{_≡_, refl, ap, ap₂, sym, _∙_}
+use mathlib.Core.Bool.{Bool, true, false, cond}
+use mathlib.Core.List.{List, [], _++_}
+use Prim.Native.Nat.{ℕ, _-_, _≤_, _<_}
+use native.Mathlib.Omega.{arith}
+use lib.Dec.{leb}
+use lib.IntN.{ℤ}
+use lib.ListN.{length, take, replicate}
+use lib.Seq.{take-at}
+use borrow.Author.Tests.{le-leb}
+use Rattle.laws.specs.All.{All}
+use Rattle.laws.proofs.Bools.{by-test}
+use Rattle.guard.specs.File.{file}
+use Rattle.guard.specs.Guard.{Guard}
+use Rattle.guard.specs.Limits.{base}
+use Rattle.guard.specs.Number.{Parsed, Parsed.accepted, Parsed.refused}
+use Rattle.guard.proofs.Claims.{base-supported}
+use Rattle.serialize.specs.NumberList.{listFile}
+use Rattle.serialize.specs.Tokens.{bytesOf, numbersOf}
+use Rattle.serialize.proofs.Theorems.{read-as-list, same-bytes}
+use Rattle.bytebuffer.proofs.FillLaws.{filled-with}
+use Rattle.listreader.proofs.ListReaderLaws.{list-question}
+use Rattle.filewriter.specs.declared.FileWritten.{FileWritten}
+use Rattle.filewriter.specs.Writer.{answerTo, leftBy}
+
+by-room : (g : Guard) (n : ℕ) (b : Bool) → leb (length (bytesOf g)) n ≡ b → answerTo (accepted g []) n ≡ cond b (record { refused = 0; bytes = length (bytesOf g) }) (record { refused = 14; bytes = 0 })
+by-room g n b q = ap (λ (b : Bool). cond b (record { refused = 0; bytes = length (bytesOf g) }) (record { refused = 14; bytes = 0 })) q
+
+-- "The desk reads the bytes back as that list": the bytes that stand in the buffer are a file of a guard whose numbers are the list
+pub written-read : (zs : List ℤ) (n : ℕ) → answerTo (listFile base zs) n .refused ≡ 0
+    → (g : Guard) × (file base (take (answerTo (listFile base zs) n .bytes) (leftBy (listFile base zs) n)) ≡ accepted g []) × (numbersOf g ≡ zs)
+written-read zs n z = go (listFile base zs) refl z
+  where
+    go : (p : Parsed Guard) → listFile base zs ≡ p → answerTo p n .refused ≡ 0 → (g : Guard) × (file base (take (answerTo p n .bytes) (leftBy p n)) ≡ accepted g []) × (numbersOf g ≡ zs)
+    go (refused q) e z = absurd (omega (arith, list-question zs q e))
+    go (accepted g rest) e z =
+        let (back, same) = read-as-list base base-supported zs g rest e in
+        by-test (leb (length (bytesOf g)) n)
+        (λ q. (g, ap (file base) (front q) ∙ back, same))
+        (λ q. absurd (omega (arith, sym (ap (λ (w : FileWritten). w .refused) (by-room g n false q)) ∙ z)))
+      where
+        front : leb (length (bytesOf g)) n ≡ true → take (answerTo (accepted g rest) n .bytes) (leftBy (accepted g rest) n) ≡ bytesOf g
+        front q =
+            ap₂ (λ (k : ℕ) (l : List ℕ). take k l) (ap (λ (w : FileWritten). w .bytes) (by-room g n true q)) (filled-with (bytesOf g) n q)
+            ∙ take-at (bytesOf g) (replicate (n - length (bytesOf g)) 0) (length (bytesOf g)) refl
+
+-- "an accepted file, read and written, has the same bytes", where they fit
+pub read-written : (bs : List ℕ) (g : Guard) (rest : List ℕ) (n : ℕ) → All (λ b. b < 256) bs → file base bs ≡ accepted g rest → length bs ≤ n
+    → (answerTo (listFile base (numbersOf g)) n ≡ record { refused = 0; bytes = length bs }) × (leftBy (listFile base (numbersOf g)) n ≡ bs ++ replicate (n - length bs) 0)
+read-written bs g rest n small e fits =
+    let (taken, same) = same-bytes base base-supported bs g rest small e in
+    let room : leb (length (bytesOf g)) n ≡ true = ap (λ (l : List ℕ). leb (length l) n) same ∙ le-leb (length bs) n fits in (
+      ap (λ (p : Parsed Guard). answerTo p n) taken ∙ by-room g n true room
+          ∙ ap (λ (l : List ℕ). record { refused = 0; bytes = length l }) same,
+      ap (λ (p : Parsed Guard). leftBy p n) taken ∙ filled-with (bytesOf g) n room ∙ ap (λ (l : List ℕ). l ++ replicate (n - length l) 0) same,
+    )
