@@ -1,15 +1,18 @@
 -- What a program in another language is given by its calls: the answer as three numbers, and a return code or the length of a record. Assumes nothing:
 -- definitions.
 use mathlib.Core.Path.{_≡_}
+use mathlib.Core.Bool.{cond}
 use mathlib.Core.List.{List, _++_}
-use Prim.Native.Nat.{ℕ, _-_, _^_, _≤_, _<_}
-use lib.IntN.{ℤ}
+use Prim.Native.Nat.{ℕ, zero, suc, _-_, _^_, _≤_, _<_}
+use lib.Dec.{eqb}
+use lib.IntN.{ℤ, pos, negsuc}
 use lib.ListN.{length, drop}
 use Rattle.guard.specs.Limits.{Limits}
 use Rattle.guard.specs.declared.Answer.{Answer}
 use Rattle.answernumbers.specs.Numbers.{answerLength, answerNumbers}
 use Rattle.decide.specs.Decides.{Decides}
 use Rattle.explain.specs.Explains.{Explains}
+use Rattle.filewriter.specs.declared.FileWritten.{FileWritten}
 
 -- return codes: the call was answered; the answer buffer is too short
 abbrev pub answeredCode : ℕ
@@ -47,3 +50,14 @@ pub record ExplainedAnswers (limits : Limits) (bytes : List ℕ) (budget : ℕ) 
 pub record LinksExplained (limits : Limits) (bytes : List ℕ) (budget : ℕ) (rows places : List ℤ) (lent numbers : List ℕ) (many : ℕ) (rows′ places′ : List ℤ) (lent′ numbers′ : List ℕ) : Type 0 where
   pub short : length numbers < answerLength → (many ≡ shortBytes) × ((rows′ ≡ rows) × ((places′ ≡ places) × ((lent′ ≡ lent) × (numbers′ ≡ numbers))))
   pub enough : answerLength ≤ length numbers → ExplainedAnswers limits bytes budget rows places lent numbers many rows′ places′ lent′ numbers′
+
+-- ---- the writer
+
+-- −n
+abbrev pub minus : ℕ → ℤ
+minus zero = pos 0
+minus (suc n) = negsuc n
+
+-- what is returned: the number of bytes, or minus the number of the question
+abbrev pub writtenCode : FileWritten → ℤ
+writtenCode w = cond (eqb (w .refused) 0) (pos (w .bytes)) (minus (w .refused))

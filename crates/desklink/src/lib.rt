@@ -1,10 +1,13 @@
 // The desk's calls for programs in other languages, numbers and slices only; a slice is a pointer and a length there.
 // `specs/Links.antt` says what it gives, link/guarddesk.h declares it for C, link/rust wraps it for Rust.
 ghost use mathlib.Core.Path.{_≡_};
+ghost use lib.ListN.{length};
 ghost use Rattle.guard.specs.Limits.{base};
 ghost use Rattle.refutations.specs.Checker.{checked};
 ghost use Rattle.recordchecker.specs.Checks.{answer};
-ghost use Rattle.desklink.specs.Links.{Links, LinksExplained};
+ghost use Rattle.serialize.specs.NumberList.{listFile};
+ghost use Rattle.filewriter.specs.Writer.{answerTo, leftBy};
+ghost use Rattle.desklink.specs.Links.{Links, LinksExplained, writtenCode};
 
 // The answer to a guard file within a budget of nodes, as three numbers in `numbers`; the rest as `decide` has it. Returns
 // 0, or 1 if `numbers` is too short for an answer; then nothing is written.
@@ -54,4 +57,18 @@ pub extern "C" fn guarddesk_check(file: &[u8], record: &[u8]) -> u32
     ensures { λ r. ⌜ answer r ≡ checked base (now (file .entry)) (now («record» .entry)) ⌝ }
 {
     recordchecker::check(file, record)
+}
+
+// Writes a guard file from a list of its numbers, constants as their values, into `out`, zeros behind it. Returns the number of its
+// bytes, or minus the number of the question that refused it; then `out` is all 0.
+#[no_mangle]
+pub extern "C" fn guarddesk_write(list: &[i64], out: &mut [u8]) -> i64
+    ensures { λ r. ⌜ r ≡ writtenCode (answerTo (listFile base (now (list .entry))) (length (now (out .entry)))) ⌝ }
+    ensures { λ r. ⌜ now (out .exit) ≡ leftBy (listFile base (now (list .entry))) (length (now (out .entry))) ⌝ }
+{
+    let w = filewriter::write(list, out);
+    if w.refused != 0 {
+        return 0 - w.refused as i64;
+    }
+    w.bytes as i64
 }
