@@ -16,7 +16,7 @@ use Rattle.guard.specs.Limits.{variantLimit}
 use Rattle.guard.specs.Node.{holdsAnother}
 use Rattle.loops.specs.Lowest.{lowest}
 use Rattle.loops.proofs.Tests.{and-no, no-and, yes-and}
-use Rattle.given.specs.Facts.{constantValue}
+use Rattle.constants.specs.Constants.{constantValue}
 use Rattle.reasons.specs.Reasons.{constantClass}
 use Rattle.cycles.specs.Cycles.{Inside, Tells}
 use Rattle.claims.specs.Claims.{ClosedBy, InsideTerm, constantOf, isTerm, otherConstant, splitsBy, unlikeIn}

@@ -25,8 +25,8 @@ use Rattle.loops.specs.Lowest.{lowest}
 use Rattle.loops.proofs.Loops.{any-here, both, lowest-any}
 use Rattle.problem.specs.Problem.{constantsOf}
 use Rattle.slots.proofs.DueLaws.{is-nonzero, nonzero-is}
-use Rattle.given.specs.Facts.{constantValue, isConstant}
-use Rattle.given.proofs.ConstantSlots.{ConstantSlot, ConstantSlots, constant-slots}
+use Rattle.constants.specs.Constants.{constantValue, isConstant}
+use Rattle.constants.proofs.ConstantSlots.{ConstantSlot, ConstantSlots, constant-slots}
 use Rattle.reasons.specs.Reasons.{constantClass}
 use Rattle.claims.specs.Claims.{constantOf, otherConstant, unlikeIn}
 

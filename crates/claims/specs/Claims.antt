@@ -13,7 +13,7 @@ use Rattle.guard.specs.Limits.{variantLimit}
 use Rattle.guard.specs.Node.{holdsAnother}
 use Rattle.loops.specs.Lowest.{lowest}
 use Rattle.slots.specs.Slots.{sortAt}
-use Rattle.given.specs.Facts.{constantValue, isConstant}
+use Rattle.constants.specs.Constants.{constantValue, isConstant}
 use Rattle.reasons.specs.Reasons.{brokenAt, constantClass, emptyAt}
 use Rattle.cycles.specs.Cycles.{Inside}
 use Rattle.refutations.specs.Record.{Entry, Entry.empty, Entry.inside, Entry.splitOn, Entry.unequalLine, Entry.unlike}

@@ -28,7 +28,7 @@ fn is_constant_of(classes: &[u8; 96], constants: &[u8; 32], class: u8, k: usize)
     if constants[k] == 0 {
         return false;
     }
-    classes::class_of(classes, given::constant_term(k)) == class
+    classes::class_of(classes, constants::constant_term(k)) == class
 }
 
 // The lowest slot that has one; 30 if there is none.
@@ -60,7 +60,7 @@ fn is_other_constant(
     if !is_constant_of(classes, constants, class, k) {
         return false;
     }
-    given::constant_value(values, k) != given::constant_value(values, first)
+    constants::constant_value(values, k) != constants::constant_value(values, first)
 }
 
 // Whether a class holds two constants of different value: one differs from the first.

@@ -88,7 +88,7 @@ fn constant_row(leaf: Leaf, rows: &mut [i32], many: usize, k: usize) -> Drawn
 {
     let values = leaf.values;
     let t = less(leaf.constants[k]);
-    number_row(rows, many, t, given::constant_value(&values, k))
+    number_row(rows, many, t, constants::constant_value(&values, k))
 }
 
 // The fieldless variant that term `y` is of alone.

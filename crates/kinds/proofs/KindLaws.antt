@@ -37,8 +37,8 @@ use Rattle.slots.proofs.MaskLaws.{bit-fieldless, fieldless-bit}
 use Rattle.slots.proofs.OnlyOne.{one-left}
 use Rattle.slots.proofs.TableSlots.{ShapeSlot, SortSlots}
 use Rattle.slots.proofs.ActiveSlots.{active-build, build-active}
-use Rattle.given.specs.Facts.{constantValue, isConstant}
-use Rattle.given.proofs.ConstantSlots.{ConstantSlot, ConstantSlots, constant-slots}
+use Rattle.constants.specs.Constants.{constantValue, isConstant}
+use Rattle.constants.proofs.ConstantSlots.{ConstantSlot, ConstantSlots, constant-slots}
 use Rattle.splits.specs.Choice.{lowestIn}
 use Rattle.kinds.specs.Found.{constantOf, isFixed, isShape, isSingle, shapeOf, singleOf}
 

@@ -44,7 +44,7 @@ fn is_fixed(classes: &[u8; 96], constants: &[u8; 32], c: u8, k: usize) -> bool
     if constants[k] == 0 {
         return false;
     }
-    classes::class_of(classes, given::constant_term(k)) == c
+    classes::class_of(classes, constants::constant_term(k)) == c
 }
 
 // The lowest slot with a constant of class `c`; 30 if there is none.

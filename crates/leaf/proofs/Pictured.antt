@@ -33,7 +33,7 @@ use Rattle.tables.specs.Layout.{flat, rowTable}
 use Rattle.tables.proofs.Lookups.{map-at}
 use Rattle.problem.specs.Problem.{constantsOf, fieldlessOf, kindNumber, shapesOf, sortsOf}
 use Rattle.slots.specs.Slots.{manyAt, partAt}
-use Rattle.given.specs.Facts.{constantValue}
+use Rattle.constants.specs.Constants.{constantValue}
 use Rattle.splits.specs.Choice.{lowestIn}
 use Rattle.rowstore.proofs.RowLaws.{belongs-type}
 use Rattle.kinds.specs.Found.{constantOf, isShape, singleOf}

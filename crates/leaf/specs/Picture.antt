@@ -14,7 +14,7 @@ use Rattle.guard.specs.Types.{fieldsOf, isNumber, variantsOf}
 use Rattle.growth.proofs.Plans.{plannedMessage}
 use Rattle.problem.specs.Problem.{kindNumber}
 use Rattle.slots.specs.Slots.{kindAt, manyAt, partAt, sortAt}
-use Rattle.given.specs.Facts.{constantValue}
+use Rattle.constants.specs.Constants.{constantValue}
 use Rattle.splits.specs.Choice.{lowestIn}
 use Rattle.kinds.specs.Found.{constantOf, isShape, singleOf}
 use Rattle.plans.specs.Plans.{OpenState, isFree, marked, planFor, stateOf, typeFor}

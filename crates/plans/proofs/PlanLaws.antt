@@ -43,7 +43,7 @@ use Rattle.classes.specs.Held.{Held}
 use Rattle.problem.specs.Problem.{constantsOf, shapesOf}
 use Rattle.slots.proofs.GuardSlots.{shape-slots}
 use Rattle.slots.proofs.ActiveSlots.{build-active}
-use Rattle.given.proofs.ConstantSlots.{constant-slots}
+use Rattle.constants.proofs.ConstantSlots.{constant-slots}
 use Rattle.ranks.specs.Ranks.{ownClass, partClass, rankingOf}
 use Rattle.ranks.proofs.CycleLaws.{inside-same}
 use Rattle.ranks.proofs.RankLaws.{ranks-fall}

@@ -127,7 +127,7 @@ fn is_taken_at(constants: &[u8; 32], values: &[i32; 24], z: u32, k: usize) -> bo
     if constants[k] == 0 {
         return false;
     }
-    given::constant_value(values, k) == z as i32
+    constants::constant_value(values, k) == z as i32
 }
 
 fn is_taken(constants: &[u8; 32], values: &[i32; 24], z: u32) -> bool

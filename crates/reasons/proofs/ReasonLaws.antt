@@ -35,8 +35,8 @@ use Rattle.problem.proofs.SlotLaws.{full-at, full-none}
 use Rattle.slots.specs.Slots.{sortAt}
 use Rattle.slots.proofs.GuardSlots.{sort-slots}
 use Rattle.slots.proofs.TableSlots.{SortSlots}
-use Rattle.given.specs.Facts.{constantTerm, constantValue}
-use Rattle.given.proofs.ConstantSlots.{ConstantSlot, ConstantSlots, constant-slots}
+use Rattle.constants.specs.Constants.{constantTerm, constantValue}
+use Rattle.constants.proofs.ConstantSlots.{ConstantSlot, ConstantSlots, constant-slots}
 use Rattle.reasons.specs.Reasons.{brokenAt, constantClass, emptyAt, unlikeAt}
 use Rattle.reasons.proofs.Constants.{unlike-is, unlike-yes}
 

@@ -103,7 +103,7 @@ fn constant_class(classes: &[u8; 96], k: usize) -> usize
     requires { ⌜ k < 30 ⌝ }
     ensures { λ r. ⌜ r ≡ constantClass (now (classes .entry)) k ⌝ }
 {
-    wide(classes::class_of(classes, given::constant_term(k)))
+    wide(classes::class_of(classes, constants::constant_term(k)))
 }
 
 fn is_unlike(
@@ -122,7 +122,7 @@ fn is_unlike(
     if constant_class(classes, j) != constant_class(classes, k) {
         return false;
     }
-    given::constant_value(values, j) != given::constant_value(values, k)
+    constants::constant_value(values, j) != constants::constant_value(values, k)
 }
 
 // Whether slot k has a constant, and an unlike one before it.

@@ -27,8 +27,10 @@ use Rattle.slots.specs.Slots.{ShapesFit, SortsFit}
 use Rattle.labelled.specs.Covers.{Lists, hasLabel}
 use Rattle.labelled.proofs.Covering.{covers-fieldless, covers-full}
 use Rattle.slots.proofs.GuardSlots.{reads-fit, shapes-fit, sorts-fit}
-use Rattle.given.specs.Facts.{LiteralsFit, givenBy}
-use Rattle.given.proofs.GivenLaws.{begin-reached, begin-says, givenOf, literals-fit}
+use Rattle.literalfacts.specs.Literals.{LiteralsFit}
+use Rattle.literalfacts.proofs.LiteralLaws.{literals-fit}
+use Rattle.given.specs.Given.{givenBy}
+use Rattle.given.proofs.GivenLaws.{begin-reached, begin-says, givenOf}
 use Rattle.nodes.proofs.NodeLaws.{few-lines, lines-fit}
 use Rattle.search.specs.declared.Outcome.{Outcome}
 use Rattle.search.specs.Outcome.{isOpenOutcome}

@@ -4,7 +4,7 @@ use Prim.Native.Nat.{ℕ}
 use lib.ListN.{getD}
 use native.Mathlib.Omega.{arith}
 use borrow.Author.Needs.{needs}
-use Rattle.given.proofs.GivenTests.{constant-small}
+use Rattle.constants.proofs.ConstantTests.{constant-small}
 use Rattle.claims.proofs.ClaimTests.{a-constant, no-constant}
 use Rattle.claims.proofs.is_constant_of.Statement.{statement}
 use Rattle.claims.proofs.is_constant_of.Tie as tie

@@ -2,7 +2,7 @@
 use mathlib.Core.Path.{sym, _∙_}
 use borrow.Author.Needs.{needs}
 use borrow.Author.Tests.{not-false, not-true}
-use Rattle.given.proofs.GivenTests.{same-bits}
+use Rattle.constants.proofs.ConstantTests.{same-bits}
 use Rattle.claims.proofs.ClaimTests.{by-value, not-of}
 use Rattle.claims.proofs.is_other_constant.Statement.{statement}
 use Rattle.claims.proofs.is_other_constant.Tie as tie
