@@ -5,9 +5,9 @@ use borrow.Author.Needs.{needs}
 use Rattle.numbers.proofs.Answers.{says-accepted, says-refused}
 use Rattle.refutations.specs.Checker.{entry}
 use Rattle.claims.specs.Claims.{entryAt}
-use Rattle.recordchecker.proofs.EntryLaws.{kind-past, no-kind, no-number, no-second, one-number, one-within, two-numbers, two-within}
-use Rattle.recordchecker.proofs.read_entry.Statement.{statement}
-use Rattle.recordchecker.proofs.read_entry.Tie as tie
+use Rattle.entryreader.proofs.EntryLaws.{kind-past, no-kind, no-number, no-second, one-number, one-within, two-numbers, two-within}
+use Rattle.entryreader.proofs.read_entry.Statement.{statement}
+use Rattle.entryreader.proofs.read_entry.Tie as tie
 
 read-number-requires : tie.Need-read-number-requires
 read-number-requires c κs = search needs

@@ -14,15 +14,15 @@ use Rattle.search.proofs.Decisions.{bit-most, fit-add, fit-steps}
 use Rattle.search.proofs.Measure.{labelSum}
 use Rattle.claims.proofs.closes.Reads as closes-reads
 use Rattle.claims.proofs.splits.Reads as splits-reads
-use Rattle.recordchecker.proofs.Children.{is-falls, isnt-falls, split-term, split-variant}
-use Rattle.recordchecker.proofs.CheckLaws.{closed, first-refused, no-entry, no-split, not-closed, record-ends, second-tells}
-use Rattle.recordchecker.proofs.no_node.Reads as no-node-reads
-use Rattle.recordchecker.proofs.read_entry.Reads as read-entry-reads
-use Rattle.recordchecker.proofs.check_node.Reads as check-node
-use Rattle.recordchecker.proofs.check_node.Kinds as check-node-kinds
-use Rattle.recordchecker.proofs.+check_node.Lts-check_node as check-node-lts
-use Rattle.recordchecker.proofs.+check_node.{statement}
-use Rattle.recordchecker.proofs.+check_node.Tie.{close}
+use Rattle.entryreader.proofs.read_entry.Reads as read-entry-reads
+use Rattle.nodechecker.proofs.Children.{is-falls, isnt-falls, split-term, split-variant}
+use Rattle.nodechecker.proofs.CheckLaws.{closed, first-refused, no-entry, no-split, not-closed, record-ends, second-tells}
+use Rattle.nodechecker.proofs.no_node.Reads as no-node-reads
+use Rattle.nodechecker.proofs.check_node.Reads as check-node
+use Rattle.nodechecker.proofs.check_node.Kinds as check-node-kinds
+use Rattle.nodechecker.proofs.+check_node.Lts-check_node as check-node-lts
+use Rattle.nodechecker.proofs.+check_node.{statement}
+use Rattle.nodechecker.proofs.+check_node.Tie.{close}
 
 abbrev μ-check-node : Measures 14 check-node-kinds.ps ℕ
 μ-check-node κs a = labelSum (state (a .0 .now) (a .1 .0 .now))

@@ -32,10 +32,11 @@ use Rattle.refutations.proofs.Depth.{check-step}
 use Rattle.claims.specs.Claims.{ClosedBy, entryAt, splitsBy}
 use Rattle.refutations.proofs.ClaimsAgree.{claim-agrees}
 use Rattle.claims.proofs.ClaimsSame.{closes-same, splits-same}
-use Rattle.recordchecker.specs.declared.EntryRead.{EntryRead}
-use Rattle.recordchecker.specs.declared.NodeRead.{NodeRead}
-use Rattle.recordchecker.specs.Checks.{Checks, EntrySays}
-use Rattle.recordchecker.proofs.Children.{split-term, split-variant}
+use Rattle.entryreader.specs.declared.EntryRead.{EntryRead}
+use Rattle.entryreader.specs.Entries.{EntrySays}
+use Rattle.nodechecker.specs.declared.NodeRead.{NodeRead}
+use Rattle.nodechecker.specs.Nodes.{Checks}
+use Rattle.nodechecker.proofs.Children.{split-term, split-variant}
 
 -- a node with a byte left begins with an entry
 node-reads : (holds : Entry → Bool) (child : Literal → Parser (Unit {0})) (bs : List ℕ) → 0 < length bs → checkNode holds child bs ≡ andThen (λ e. ask 12 (holds e) >> below child e) (entry bs)
