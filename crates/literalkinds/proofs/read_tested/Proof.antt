@@ -1,13 +1,13 @@
 -- `read_tested` meets its contract. Assumes nothing.
 use mathlib.Core.Path.{refl}
-use Rattle.literalreader.proofs.PairLaws.{no-variants, test-read, two, variant-stops}
-use Rattle.literalreader.specs.LiteralReader.{testBy}
+use Rattle.literalkinds.proofs.PairLaws.{no-variants, test-read, two, variant-stops}
+use Rattle.literalkinds.specs.OneLiteral.{testBy}
 use Rattle.numbers.proofs.Answers.{below-says, below-small, name-stop, says-accepted, says-refused}
 use lib.ListN.{drop, getD}
 use native.Mathlib.Omega.{arith}
 use borrow.Author.Needs.{needs}
-use Rattle.literalreader.proofs.read_tested.Statement.{statement}
-use Rattle.literalreader.proofs.read_tested.Tie as tie
+use Rattle.literalkinds.proofs.read_tested.Statement.{statement}
+use Rattle.literalkinds.proofs.read_tested.Tie as tie
 
 cast-read-below : tie.Need-cast-read-below
 cast-read-below c = search needs

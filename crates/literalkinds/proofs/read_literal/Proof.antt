@@ -1,12 +1,12 @@
 -- `read_literal` meets its contract. Assumes nothing.
-use Rattle.literalreader.proofs.LiteralLaws.{kind-stops, literal-read, literal-refused, numbers-stop}
-use Rattle.literalreader.specs.LiteralReader.{literalBy}
+use Rattle.literalkinds.proofs.OneLiteralLaws.{kind-stops, literal-read, literal-refused, numbers-stop}
+use Rattle.literalkinds.specs.OneLiteral.{literalBy}
 use Rattle.numbers.proofs.Answers.{below-small}
 use lib.ListN.{drop}
 use native.Mathlib.Omega.{arith}
 use borrow.Author.Needs.{needs}
-use Rattle.literalreader.proofs.read_literal.Statement.{statement}
-use Rattle.literalreader.proofs.read_literal.Tie as tie
+use Rattle.literalkinds.proofs.read_literal.Statement.{statement}
+use Rattle.literalkinds.proofs.read_literal.Tie as tie
 
 read-below-requires : tie.Need-read-below-requires
 read-below-requires c κs = search needs

@@ -1,13 +1,13 @@
 -- `read_two_terms` meets its contract. Assumes nothing.
 use mathlib.Core.Path.{refl}
-use Rattle.literalreader.proofs.PairLaws.{second-stops, two, two-read, types-differ}
-use Rattle.literalreader.specs.LiteralReader.{twoBy}
+use Rattle.literalkinds.proofs.PairLaws.{second-stops, two, two-read, types-differ}
+use Rattle.literalkinds.specs.OneLiteral.{twoBy}
 use Rattle.numbers.proofs.Answers.{below-says, below-small, name-stop, says-accepted, says-refused}
 use lib.ListN.{drop}
 use native.Mathlib.Omega.{arith}
 use borrow.Author.Needs.{needs}
-use Rattle.literalreader.proofs.read_two_terms.Statement.{statement}
-use Rattle.literalreader.proofs.read_two_terms.Tie as tie
+use Rattle.literalkinds.proofs.read_two_terms.Statement.{statement}
+use Rattle.literalkinds.proofs.read_two_terms.Tie as tie
 
 cast-read-below : tie.Need-cast-read-below
 cast-read-below c = search needs

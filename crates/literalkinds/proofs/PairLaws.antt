@@ -12,7 +12,7 @@ use Rattle.guard.specs.Number.{Parsed.accepted, Parsed.refused, Parser, _>>=_, 
 use Rattle.numbers.specs.Reader.{belowAt}
 use Rattle.numbers.specs.declared.Number.{Number}
 use Rattle.numbers.proofs.Answers.{ask-no, ask-yes, name-next, name-stop}
-use Rattle.literalreader.specs.LiteralReader.{Two, numbersBy, testBy, twoBy}
+use Rattle.literalkinds.specs.OneLiteral.{Two, numbersBy, testBy, twoBy}
 
 abbrev pub two : ℕ → ℕ → Two
 two i j = record { term = i; other = j }

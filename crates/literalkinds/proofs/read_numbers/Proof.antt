@@ -1,10 +1,10 @@
 -- `read_numbers` meets its contract. Assumes nothing.
-use Rattle.literalreader.proofs.PairLaws.{two-kinds, test-kinds}
+use Rattle.literalkinds.proofs.PairLaws.{two-kinds, test-kinds}
 use lib.ListN.{drop}
 use native.Mathlib.Omega.{arith}
 use borrow.Author.Needs.{needs}
-use Rattle.literalreader.proofs.read_numbers.Statement.{statement}
-use Rattle.literalreader.proofs.read_numbers.Tie as tie
+use Rattle.literalkinds.proofs.read_numbers.Statement.{statement}
+use Rattle.literalkinds.proofs.read_numbers.Tie as tie
 
 read-two-terms-requires : tie.Need-read-two-terms-requires
 read-two-terms-requires c κs = search needs
