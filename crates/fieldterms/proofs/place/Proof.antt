@@ -1,14 +1,14 @@
 -- `place` meets its contract. Assumes nothing.
 use lib.ListN.{getD}
 use mathlib.Core.Path.{ap}
-use Rattle.siblings.proofs.EntryLaws.{place-is}
+use Rattle.fieldterms.proofs.FieldTermLaws.{place-is}
 use native.Mathlib.Omega.{arith}
 use borrow.Author.Needs.{needs}
-use Rattle.siblings.proofs.place.Statement.{statement}
-use Rattle.siblings.proofs.place.Tie as tie
-use Rattle.siblings.proofs.place.Reads as reads
-use Rattle.siblings.proofs.place.Lts as lts
-use Rattle.siblings.proofs.wide.Reads as wide-reads
+use Rattle.fieldterms.proofs.place.Statement.{statement}
+use Rattle.fieldterms.proofs.place.Tie as tie
+use Rattle.fieldterms.proofs.place.Reads as reads
+use Rattle.fieldterms.proofs.place.Lts as lts
+use Rattle.fieldterms.proofs.wide.Reads as wide-reads
 
 mul-wide : tie.Need-mul-wide
 mul-wide c = search needs

@@ -1,11 +1,11 @@
 -- `field_term` meets its contract. Assumes nothing.
-use Rattle.siblings.proofs.EntryLaws.{own-term, term-after, term-before}
+use Rattle.fieldterms.proofs.FieldTermLaws.{own-term, term-after, term-before}
 use native.Mathlib.Omega.{arith}
 use borrow.Author.Needs.{needs}
-use Rattle.siblings.proofs.field_term.Statement.{statement}
-use Rattle.siblings.proofs.field_term.Tie as tie
-use Rattle.siblings.proofs.field_term.Reads as reads
-use Rattle.siblings.proofs.field_term.Lts as lts
+use Rattle.fieldterms.proofs.field_term.Statement.{statement}
+use Rattle.fieldterms.proofs.field_term.Tie as tie
+use Rattle.fieldterms.proofs.field_term.Reads as reads
+use Rattle.fieldterms.proofs.field_term.Lts as lts
 
 returns : tie.Need-returns
 returns c =

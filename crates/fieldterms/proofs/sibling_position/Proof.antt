@@ -1,11 +1,11 @@
 -- `sibling_position` meets its contract. Assumes nothing.
-use Rattle.siblings.proofs.EntryLaws.{position-after, position-before}
+use Rattle.fieldterms.proofs.FieldTermLaws.{position-after, position-before}
 use native.Mathlib.Omega.{arith}
 use borrow.Author.Needs.{needs}
-use Rattle.siblings.proofs.sibling_position.Statement.{statement}
-use Rattle.siblings.proofs.sibling_position.Tie as tie
-use Rattle.siblings.proofs.sibling_position.Reads as reads
-use Rattle.siblings.proofs.sibling_position.Lts as lts
+use Rattle.fieldterms.proofs.sibling_position.Statement.{statement}
+use Rattle.fieldterms.proofs.sibling_position.Tie as tie
+use Rattle.fieldterms.proofs.sibling_position.Reads as reads
+use Rattle.fieldterms.proofs.sibling_position.Lts as lts
 
 add-result : tie.Need-add-result
 add-result c = search needs
