@@ -23,8 +23,8 @@ use Rattle.guard.proofs.LeastClosure.{eqZ-of}
 use Rattle.tables.specs.Layout.{flat, rowTable}
 use Rattle.loops.specs.Lowest.{lowest}
 use Rattle.loops.proofs.Loops.{any-here, both, lowest-any}
-use Rattle.problem.specs.Problem.{constantsOf}
-use Rattle.slots.proofs.DueLaws.{is-nonzero, nonzero-is}
+use Rattle.arrays.specs.Arrays.{constantsOf}
+use Rattle.arrays.proofs.DueLaws.{is-nonzero, nonzero-is}
 use Rattle.constants.specs.Constants.{constantValue, isConstant}
 use Rattle.constants.proofs.ConstantSlots.{ConstantSlot, ConstantSlots, constant-slots}
 use Rattle.reasons.specs.Reasons.{constantClass}

@@ -12,7 +12,7 @@ use Rattle.guard.specs.Closure.{State, eqZ}
 use Rattle.guard.specs.Limits.{variantLimit}
 use Rattle.guard.specs.Node.{holdsAnother}
 use Rattle.loops.specs.Lowest.{lowest}
-use Rattle.slots.specs.Slots.{sortAt}
+use Rattle.arrays.specs.Slots.{sortAt}
 use Rattle.constants.specs.Constants.{constantValue, isConstant}
 use Rattle.reasons.specs.Reasons.{brokenAt, constantClass, emptyAt}
 use Rattle.cycles.specs.Cycles.{Inside}

@@ -3,7 +3,7 @@ ghost use mathlib.Core.Path.{_≡_};
 ghost use Prim.Native.Nat.{_≤_, _<_};
 ghost use Rattle.classes.specs.Held.{Held, state};
 ghost use Rattle.loops.specs.Lowest.{lowest};
-ghost use Rattle.slots.specs.Slots.{ShapesFit, SortsFit};
+ghost use Rattle.arrays.specs.Slots.{ShapesFit, SortsFit};
 ghost use Rattle.reasons.specs.Reasons.{LinesFit};
 ghost use Rattle.cycles.specs.Cycles.{Tells};
 ghost use Rattle.claims.specs.Claims.{BrokenLine, ClosedBy, EmptyTerm, InsideTerm, UnlikeTerm, constantOf, isTerm, otherConstant, splitsBy, unlikeIn};

@@ -19,8 +19,8 @@ use Rattle.guard.specs.WellFormed.{WellFormed}
 use Rattle.guard.proofs.ClosureBelow.{all-pairwise, eqZ-true}
 use Rattle.guard.proofs.LeastClosure.{Either, Either.after, Either.before, Either.identical, eqZ-of, pairwise-inv}
 use Rattle.tables.specs.Layout.{flat, rowTable}
-use Rattle.problem.specs.Problem.{constantsOf}
-use Rattle.slots.proofs.DueLaws.{either-order, is-nonzero, nonzero-is, slots-at}
+use Rattle.arrays.specs.Arrays.{constantsOf}
+use Rattle.arrays.proofs.DueLaws.{either-order, is-nonzero, nonzero-is, slots-at}
 use Rattle.facts.proofs.FactLists.{all-one, one-all, slots-all}
 use Rattle.constants.specs.Constants.{constantTerm, constantValue}
 use Rattle.constants.proofs.ConstantSlots.{ConstantSlot, ConstantSlots, constant-slots}

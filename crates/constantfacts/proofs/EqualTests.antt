@@ -11,7 +11,7 @@ use mir.Val.{SFits, ofZ}
 use borrow.Author.Tests.{eq-eqb, ne-eqb}
 use Rattle.guard.specs.Closure.{Fact.same, State, add, eqZ}
 use Rattle.loops.proofs.Tests.{no-and, second-decides}
-use Rattle.slots.proofs.DueLaws.{is-nonzero}
+use Rattle.arrays.proofs.DueLaws.{is-nonzero}
 use Rattle.facts.proofs.Adding.{not-added, one-added}
 use Rattle.constants.specs.Constants.{constantTerm, constantValue}
 use Rattle.constants.proofs.ConstantTests.{same-bits}

@@ -21,8 +21,8 @@ use Rattle.guard.proofs.DefaultLaws.{default-belongs}
 use Rattle.guard.proofs.TableLaws.{const-default, const-inv, const-row, defaultConstOf, few-rows}
 use Rattle.tables.specs.Layout.{flat, rowTable, rowValue}
 use Rattle.tables.proofs.Lookups.{row-value-at}
-use Rattle.problem.specs.Problem.{constantsOf, defaultConstant, rowConstant}
-use Rattle.problem.proofs.SlotLaws.{default-constant-at, no-default-constant, no-row-constant, row-constant-at}
+use Rattle.arrays.specs.Arrays.{constantsOf, defaultConstant, rowConstant}
+use Rattle.arrays.proofs.SlotLaws.{default-constant-at, no-default-constant, no-row-constant, row-constant-at}
 use Rattle.constants.specs.Constants.{constantTerm, constantValue}
 use Rattle.constants.proofs.ConstantTests.{default-term, default-value, row-term, row-value}
 

@@ -18,7 +18,7 @@ use Rattle.guard.specs.Message.{Message, Message.made, Message.number, Parts.ni
 use Rattle.guard.specs.Shown.{decode, isBelow, messageType, natural}
 use Rattle.guard.specs.Types.{Types, fieldsOf, isNumber, variantsOf}
 use Rattle.loops.specs.Lowest.{lowest}
-use Rattle.slots.specs.Slots.{kindAt, manyAt, partAt, sortAt}
+use Rattle.arrays.specs.Slots.{kindAt, manyAt, partAt, sortAt}
 use Rattle.constants.specs.Constants.{constantValue}
 use Rattle.splits.specs.Choice.{lowestIn}
 use Rattle.rowstore.specs.Store.{PartRows, madeRow, manyAfter, messageAt, rowFound, withRow}

@@ -8,7 +8,7 @@ use lib.IntN.{ℤ}
 use lib.ListN.{getD, set}
 use Rattle.guard.specs.Message.{Message}
 use Rattle.guard.specs.Types.{Types}
-use Rattle.slots.specs.Slots.{manyAt, partAt}
+use Rattle.arrays.specs.Slots.{manyAt, partAt}
 use Rattle.rowstore.specs.Store.{Grown}
 use Rattle.growthrows.specs.Drawing.{Drew, Store}
 use Rattle.plans.specs.Plans.{OpenState, isFree}

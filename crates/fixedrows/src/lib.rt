@@ -8,7 +8,7 @@ ghost use mathlib.Core.Path.{_≡_};
 ghost use Prim.Native.Nat.{suc, _-_, _≤_, _<_};
 ghost use lib.ListN.{length, getD};
 ghost use Rattle.classes.specs.Held.{Held};
-ghost use Rattle.slots.specs.Slots.{ShapesFit};
+ghost use Rattle.arrays.specs.Slots.{ShapesFit};
 ghost use Rattle.leaf.specs.Leaf.{LeafFits};
 ghost use Rattle.fixedrows.specs.Stage.{Advances, AtLow, ConstantDrawn, DueNow, FixedDrawn, Noted, ShapeDrawn, SingleDrawn, Staged, isDue, partRow};
 

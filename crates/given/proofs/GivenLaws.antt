@@ -22,7 +22,7 @@ use Rattle.guard.proofs.AnyOrder.{Reached, Reached.by-given, Reached.start}
 use Rattle.guard.proofs.ClosureEnds.{first}
 use Rattle.guard.proofs.ClosureState.{Says, adds-say}
 use Rattle.tables.specs.Layout.{flat, literalTable, rowTable}
-use Rattle.problem.specs.Problem.{constantsOf, fullOf, shapesOf, sortsOf}
+use Rattle.arrays.specs.Arrays.{constantsOf, fullOf, shapesOf, sortsOf}
 use Rattle.labelfacts.specs.Labels.{allVariantsBy, oneVariantBy}
 use Rattle.constantfacts.specs.Equal.{constantsBy}
 use Rattle.literalfacts.specs.Literals.{literalsBy}

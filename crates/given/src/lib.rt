@@ -5,7 +5,7 @@ ghost use lib.ListN.{length};
 ghost use Rattle.guard.specs.Closure.{add};
 ghost use Rattle.guard.proofs.ClosureEnds.{first};
 ghost use Rattle.classes.specs.Held.{Held, state};
-ghost use Rattle.slots.specs.Slots.{ShapesFit, SortsFit};
+ghost use Rattle.arrays.specs.Slots.{ShapesFit, SortsFit};
 ghost use Rattle.literalfacts.specs.Literals.{LiteralsFit};
 ghost use Rattle.given.specs.Given.{givenBy};
 

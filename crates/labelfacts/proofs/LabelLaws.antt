@@ -19,12 +19,12 @@ use Rattle.guard.specs.Terms.{Build, Table, Term, tableOf}
 use Rattle.guard.specs.WellFormed.{WellFormed}
 use Rattle.guard.proofs.TableLaws.{table-in-range}
 use Rattle.tables.specs.Layout.{flat}
-use Rattle.problem.specs.Problem.{fullOf, shapesOf, sortsOf}
-use Rattle.problem.proofs.SlotLaws.{full-at, sort-of, sort-term}
-use Rattle.slots.specs.Slots.{kindAt, othersAt, ownerAt, sortAt}
-use Rattle.slots.proofs.DueLaws.{is-nonzero, nonzero-is, slots-at}
-use Rattle.slots.proofs.GuardSlots.{shape-slots}
-use Rattle.slots.proofs.TableSlots.{ShapeSlot, ShapeSlots, Shaped, Shaped.of-build, Shaped.of-read}
+use Rattle.arrays.specs.Arrays.{fullOf, shapesOf, sortsOf}
+use Rattle.arrays.proofs.SlotLaws.{full-at, sort-of, sort-term}
+use Rattle.arrays.specs.Slots.{kindAt, othersAt, ownerAt, sortAt}
+use Rattle.arrays.proofs.DueLaws.{is-nonzero, nonzero-is, slots-at}
+use Rattle.arrays.proofs.GuardSlots.{shape-slots}
+use Rattle.arrays.proofs.TableSlots.{ShapeSlot, ShapeSlots, Shaped, Shaped.of-build, Shaped.of-read}
 use Rattle.facts.proofs.FactLists.{all-one, one-all, slots-all}
 use Rattle.labelfacts.specs.Labels.{allVariantsAt, allVariantsBy, isBuild, oneVariantAt, oneVariantBy, variantAt}
 

@@ -9,8 +9,8 @@ use borrow.Author.Tests.{eq-eqb, ne-eqb}
 use Rattle.laws.proofs.Bools.{and-both}
 use Rattle.guard.specs.Closure.{Fact.within, State, add}
 use Rattle.loops.proofs.Tests.{no-and, second-decides}
-use Rattle.slots.specs.Slots.{kindAt, othersAt, ownerAt, sortAt}
-use Rattle.slots.proofs.DueLaws.{is-nonzero}
+use Rattle.arrays.specs.Slots.{kindAt, othersAt, ownerAt, sortAt}
+use Rattle.arrays.proofs.DueLaws.{is-nonzero}
 use Rattle.facts.proofs.Adding.{not-added, one-added}
 use Rattle.labelfacts.specs.Labels.{allVariantsAt, isBuild, oneVariantAt, variantAt}
 

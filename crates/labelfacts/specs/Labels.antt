@@ -6,7 +6,7 @@ use lib.Dec.{eqb}
 use lib.ListN.{getD}
 use Rattle.laws.specs.Lists.{concatMap, from, when}
 use Rattle.guard.specs.Closure.{Fact, Fact.within}
-use Rattle.slots.specs.Slots.{kindAt, othersAt, ownerAt, sortAt}
+use Rattle.arrays.specs.Slots.{kindAt, othersAt, ownerAt, sortAt}
 
 -- "each term of variant type has a label, a set of variants: at first all"
 unfoldable pub allVariantsAt : List ℕ → List ℕ → ℕ → List Fact

@@ -4,7 +4,7 @@ ghost use mathlib.Core.List.{foldl};
 ghost use Prim.Native.Nat.{_^_, _<_};
 ghost use Rattle.guard.specs.Closure.{add};
 ghost use Rattle.classes.specs.Held.{Held, state};
-ghost use Rattle.slots.specs.Slots.{ShapesFit, SortsFit, kindAt};
+ghost use Rattle.arrays.specs.Slots.{ShapesFit, SortsFit, kindAt};
 ghost use Rattle.labelfacts.specs.Labels.{allVariantsAt, allVariantsBy, oneVariantAt, oneVariantBy, variantAt};
 
 // A term has at first all variants of its type.

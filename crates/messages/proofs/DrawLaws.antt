@@ -22,8 +22,8 @@ use Rattle.guard.proofs.ClosureState.{Small}
 use Rattle.guard.proofs.TableLaws.{few-rows}
 use Rattle.models.proofs.Drawing.{drawn-holds, drawn-values, shownBy}
 use Rattle.classes.specs.Held.{Held}
-use Rattle.problem.specs.Problem.{shapesOf}
-use Rattle.slots.specs.Slots.{active, manyAt, ownerAt, partAt}
+use Rattle.arrays.specs.Arrays.{shapesOf}
+use Rattle.arrays.specs.Slots.{active, manyAt, ownerAt, partAt}
 use Rattle.search.specs.Nodes.{Accepted, OpenLeaf}
 use Rattle.rowstore.specs.Store.{messageAt}
 use Rattle.kinds.specs.Found.{isShape}

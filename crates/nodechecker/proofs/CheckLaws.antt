@@ -21,7 +21,7 @@ use Rattle.numbers.specs.Reader.{Says}
 use Rattle.numbers.proofs.Answers.{goes-on, says-accepted, says-refused, stops}
 use Rattle.classes.specs.Held.{Held}
 use Rattle.passes.specs.Pass.{Saturated}
-use Rattle.problem.specs.Problem.{fieldlessOf, readsOf, shapesOf, sortsOf}
+use Rattle.arrays.specs.Arrays.{fieldlessOf, readsOf, shapesOf, sortsOf}
 use Rattle.saturation.specs.Due.{allDue}
 use Rattle.cycles.specs.Cycles.{Tells}
 use Rattle.search.specs.Nodes.{Accepted, ArraysOf, Begun}

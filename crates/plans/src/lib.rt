@@ -4,7 +4,7 @@ ghost use Prim.Native.Nat.{_<_, _≤_, _+_};
 ghost use lib.ListN.{getD};
 ghost use Rattle.tables.specs.Layout.{TypesInRange, typesOf};
 ghost use Rattle.classes.specs.Held.{Held, state};
-ghost use Rattle.slots.specs.Slots.{ShapesFit, SortsFit};
+ghost use Rattle.arrays.specs.Slots.{ShapesFit, SortsFit};
 ghost use Rattle.plans.specs.Chosen.{freeAt, heldAt, higherAt, highestOf, isMember, sortIn, termIn, variantEntry, variantIn};
 ghost use Rattle.plans.specs.Fresh.{nextFresh, taken, takenAt};
 use tables::TypeTable;

@@ -3,7 +3,7 @@ ghost use mathlib.Core.Path.{_≡_};
 ghost use Prim.Native.Nat.{_<_, _≤_};
 ghost use Rattle.classes.specs.Held.{Held, state};
 ghost use Rattle.loops.specs.Lowest.{lowest};
-ghost use Rattle.slots.specs.Slots.{SortsFit};
+ghost use Rattle.arrays.specs.Slots.{SortsFit};
 ghost use Rattle.labelled.specs.Covers.{Covers, hasMask};
 ghost use Rattle.reasons.specs.Reasons.{LinesFit, brokenAt, constantClass, emptyAt, unlike, unlikeAt, unlikeBefore};
 use slots::label_at;

@@ -23,10 +23,10 @@ use Rattle.problem.specs.declared.Problem.{Problem}
 use Rattle.problem.specs.Problem.{problemOf}
 use Rattle.problem.specs.Columns.{problemBy}
 use Rattle.problem.proofs.ProblemLaws.{problem-is}
-use Rattle.slots.specs.Slots.{ShapesFit, SortsFit}
+use Rattle.arrays.specs.Slots.{ShapesFit, SortsFit}
 use Rattle.labelled.specs.Covers.{Lists, hasLabel}
 use Rattle.labelled.proofs.Covering.{covers-fieldless, covers-full}
-use Rattle.slots.proofs.GuardSlots.{reads-fit, shapes-fit, sorts-fit}
+use Rattle.arrays.proofs.GuardSlots.{reads-fit, shapes-fit, sorts-fit}
 use Rattle.literalfacts.specs.Literals.{LiteralsFit}
 use Rattle.literalfacts.proofs.LiteralLaws.{literals-fit}
 use Rattle.given.specs.Given.{givenBy}

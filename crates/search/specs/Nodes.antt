@@ -22,8 +22,8 @@ use Rattle.tables.specs.Layout.{flat, literalTable, rowTable}
 use Rattle.reader.specs.declared.Tables.{Tables}
 use Rattle.reader.specs.Reader.{guardTables}
 use Rattle.classes.specs.Held.{Held, state}
-use Rattle.problem.specs.Problem.{constantsOf, fieldlessOf, fullOf, readsOf, shapesOf, sortsOf}
-use Rattle.slots.specs.Slots.{ReadsFit, ShapesFit, SortsFit}
+use Rattle.arrays.specs.Arrays.{constantsOf, fieldlessOf, fullOf, readsOf, shapesOf, sortsOf}
+use Rattle.arrays.specs.Slots.{ReadsFit, ShapesFit, SortsFit}
 use Rattle.labelled.specs.Covers.{Covers, hasMask}
 use Rattle.reasons.specs.Reasons.{LinesFit}
 use Rattle.search.specs.declared.Outcome.{Outcome}

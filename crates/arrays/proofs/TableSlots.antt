@@ -9,8 +9,8 @@ use Rattle.guard.specs.Limits.{variantLimit}
 use Rattle.guard.specs.Terms.{Build, Read, Table, Term, asBuild, fieldless}
 use Rattle.guard.specs.Types.{fieldsOf, variantsOf}
 use lib.ListN.{getD, length}
-use Rattle.problem.specs.Problem.{fieldKey, kindNumber, maskOf}
-use Rattle.slots.specs.Slots.{kindAt, manyAt, othersAt, ownerAt, partAt, readBit, readDefault, readKey, readTerm, sortAt}
+use Rattle.arrays.specs.Arrays.{fieldKey, kindNumber, maskOf}
+use Rattle.arrays.specs.Slots.{kindAt, manyAt, othersAt, ownerAt, partAt, readBit, readDefault, readKey, readTerm, sortAt}
 
 -- ---- field reads
 

@@ -24,10 +24,10 @@ use Rattle.guard.proofs.ClosureBelow.{InRange}
 use Rattle.guard.proofs.TableLaws.{build-default, build-inv, build-row, defaultBuildOf, few-rows, read-inv, read-row, row-fit, table-in-range}
 use Rattle.tables.specs.Layout.{flat, pad}
 use Rattle.tables.proofs.Columns.{pad-get}
-use Rattle.problem.specs.Problem.{defaultShape, fieldlessOf, kindNumber, noShape, readsOf, rowRead, rowShape, shape, shapesOf, sortsOf}
-use Rattle.problem.proofs.SlotLaws.{default-shape-at, field-length, fieldless-at, fieldless-none, no-default-shape, no-row-read, no-row-shape, row-read-at, row-shape-at, sort-of, sort-term, sorts-small}
-use Rattle.slots.specs.Slots.{ReadsFit, ShapesFit, SortsFit, kindAt, manyAt, othersAt, ownerAt, partAt}
-use Rattle.slots.proofs.TableSlots.{ReadSlot, ReadSlots, ShapeSlot, ShapeSlots, Shaped, Shaped.of-build, Shaped.of-read, SortSlots}
+use Rattle.arrays.specs.Arrays.{defaultShape, fieldlessOf, kindNumber, noShape, readsOf, rowRead, rowShape, shape, shapesOf, sortsOf}
+use Rattle.arrays.proofs.SlotLaws.{default-shape-at, field-length, fieldless-at, fieldless-none, no-default-shape, no-row-read, no-row-shape, row-read-at, row-shape-at, sort-of, sort-term, sorts-small}
+use Rattle.arrays.specs.Slots.{ReadsFit, ShapesFit, SortsFit, kindAt, manyAt, othersAt, ownerAt, partAt}
+use Rattle.arrays.proofs.TableSlots.{ReadSlot, ReadSlots, ShapeSlot, ShapeSlots, Shaped, Shaped.of-build, Shaped.of-read, SortSlots}
 
 -- slot k, of so many places each, is this list
 abbrev Stands : List ℕ → ℕ → ℕ → List ℕ → Type 0

@@ -20,7 +20,7 @@ use Rattle.guard.specs.Types.{Variant}
 use Rattle.guard.proofs.ClosureState.{Small}
 use Rattle.guard.proofs.LeastClosure.{alone-of}
 use Rattle.guard.proofs.TableLaws.{fieldless-has, fieldless-is}
-use Rattle.problem.specs.Problem.{maskOf}
+use Rattle.arrays.specs.Arrays.{maskOf}
 
 -- ---- labels
 

@@ -15,10 +15,10 @@ use Rattle.guard.specs.Closure.{State, alone, buildsAt, everyVariant, labelOf, 
 use Rattle.guard.specs.Terms.{Build, Table, asBuild}
 use Rattle.guard.proofs.ClosureBelow.{all-builds}
 use Rattle.guard.proofs.ClosureState.{Small}
-use Rattle.slots.specs.Slots.{active, kindAt, othersAt, ownerAt}
-use Rattle.slots.proofs.DueLaws.{is-nonzero, mem-when, nonzero-is}
-use Rattle.slots.proofs.MaskLaws.{gone-others, others-gone}
-use Rattle.slots.proofs.TableSlots.{ShapeSlot, ShapeSlots, Shaped, Shaped.of-build, Shaped.of-read}
+use Rattle.arrays.specs.Slots.{active, kindAt, othersAt, ownerAt}
+use Rattle.arrays.proofs.DueLaws.{is-nonzero, mem-when, nonzero-is}
+use Rattle.arrays.proofs.MaskLaws.{gone-others, others-gone}
+use Rattle.arrays.proofs.TableSlots.{ShapeSlot, ShapeSlots, Shaped, Shaped.of-build, Shaped.of-read}
 
 module _ (t : Table) (array : List ℕ) (slots : ShapeSlots t array) (s : State) (small : Small s) where
   module _ (k : ℕ) where

@@ -29,8 +29,8 @@ use Rattle.tables.proofs.Lookups.{map-at}
 use Rattle.siblings.specs.Siblings.{rowSorts, siblingsIn}
 use Rattle.siblings.proofs.ReadLaws.{sibling-sort-at, sibling-terms, sort-of-term}
 use Rattle.siblings.proofs.RowEntries.{read-sorts}
-use Rattle.problem.specs.Problem.{constantsOf, defaultConstant, defaultShape, fieldlessOf, fullOf, maskOf, readsOf, rowConstant, rowRead, rowShape, shape, shapesOf, sortsOf}
-use Rattle.problem.proofs.Blocks.{back-at, blocks-at, blocks-length, both-length, front-at, rows-at, rows-length}
+use Rattle.arrays.specs.Arrays.{constantsOf, defaultConstant, defaultShape, fieldlessOf, fullOf, maskOf, readsOf, rowConstant, rowRead, rowShape, shape, shapesOf, sortsOf}
+use Rattle.arrays.proofs.Blocks.{back-at, blocks-at, blocks-length, both-length, front-at, rows-at, rows-length}
 
 -- ---- lengths of what rows and defaults give
 
