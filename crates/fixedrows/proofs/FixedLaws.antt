@@ -23,8 +23,8 @@ use Rattle.constants.specs.Constants.{constantValue}
 use Rattle.splits.specs.Choice.{lowestIn}
 use Rattle.rowstore.specs.Store.{PartRows, madeRow, manyAfter, messageAt, rowFound, withRow}
 use Rattle.kinds.specs.Found.{constantOf, isShape, isSingle, shapeOf, singleOf}
-use Rattle.growthrows.specs.Drawing.{Drew, LowRows, NumberDrawn, Store}
-use Rattle.growthrows.proofs.RowLaws.{drew-over}
+use Rattle.drawnrows.specs.Drawing.{Drew, LowRows, NumberDrawn, Store}
+use Rattle.drawnrows.proofs.RowLaws.{drew-over}
 use Rattle.plans.specs.Chosen.{freeAt, isMarked}
 use Rattle.plans.specs.Plans.{OpenState, isFree, marked, stateOf}
 use Rattle.leaf.specs.declared.Leaf.{Leaf}

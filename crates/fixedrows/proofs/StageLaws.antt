@@ -13,7 +13,7 @@ use Rattle.laws.proofs.Bools.{and-both, and-left, and-right, by-test}
 use Rattle.guard.specs.Message.{Message}
 use Rattle.guard.specs.Types.{Types}
 use Rattle.rowstore.proofs.StoreLaws.{grown-itself, grown-twice}
-use Rattle.growthrows.specs.Drawing.{Drew}
+use Rattle.drawnrows.specs.Drawing.{Drew}
 use Rattle.plans.specs.Chosen.{isMarked}
 use Rattle.plans.specs.Plans.{OpenState, isFree, marked}
 use Rattle.leaf.specs.declared.Leaf.{Leaf}

@@ -10,7 +10,7 @@ use Rattle.guard.specs.Message.{Message}
 use Rattle.guard.specs.Types.{Types}
 use Rattle.arrays.specs.Slots.{manyAt, partAt}
 use Rattle.rowstore.specs.Store.{Grown}
-use Rattle.growthrows.specs.Drawing.{Drew, Store}
+use Rattle.drawnrows.specs.Drawing.{Drew, Store}
 use Rattle.plans.specs.Plans.{OpenState, isFree}
 use Rattle.leaf.specs.declared.Leaf.{Leaf}
 use Rattle.leaf.specs.Leaf.{openState}

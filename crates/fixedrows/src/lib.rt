@@ -1,8 +1,8 @@
 // Rows for the classes of an open node that something fixes: a shape over the rows of its parts, a constant, or one
 // fieldless variant. They are drawn in order of rank, so the rows of the parts are there. `specs/` says what is drawn.
-use growthrows::Drawn;
-use growthrows::made_row;
-use growthrows::number_row;
+use drawnrows::Drawn;
+use drawnrows::made_row;
+use drawnrows::number_row;
 use leaf::Leaf;
 ghost use mathlib.Core.Path.{_≡_};
 ghost use Prim.Native.Nat.{suc, _-_, _≤_, _<_};

@@ -28,7 +28,7 @@ use Rattle.search.specs.Nodes.{Accepted, OpenLeaf}
 use Rattle.rowstore.specs.Store.{messageAt}
 use Rattle.kinds.specs.Found.{isShape}
 use Rattle.needed.specs.Needed.{Needed, Needed.of-part, Needed.of-row, ownClass}
-use Rattle.growthrows.specs.Drawing.{Under, Under.here, Under.part}
+use Rattle.drawnrows.specs.Drawing.{Under, Under.here, Under.part}
 use Rattle.plans.specs.Plans.{OpenState, highestRank, openOf, planFor}
 use Rattle.leaf.specs.declared.Leaf.{Leaf}
 use Rattle.leaf.specs.Leaf.{openState}

@@ -1,6 +1,6 @@
 // Messages for the terms of an open node: rows in the one buffer, the row of each term in the other. `specs/` says what
 // is drawn, and what it shows.
-use growthrows::Forms;
+use forms::Forms;
 use growthtables::growth_of;
 use leaf::Leaf;
 use problem::Problem;
@@ -11,7 +11,7 @@ ghost use lib.ListN.{length};
 ghost use Rattle.problem.specs.Columns.{problemBy};
 ghost use Rattle.classes.specs.Held.{Held, state};
 ghost use Rattle.search.specs.Nodes.{GuardsTables};
-ghost use Rattle.growthrows.specs.Forms.{FormsFit, typesIn};
+ghost use Rattle.forms.specs.Forms.{FormsFit, typesIn};
 ghost use Rattle.leaf.specs.Leaf.{LeafFits, openState};
 ghost use Rattle.freerows.specs.Free.{Blank, FreeFits};
 ghost use Rattle.fixedrows.specs.Stage.{AtLow};

@@ -7,7 +7,7 @@ use mathlib.Core.List.{List, map}
 use Prim.Native.Nat.{ℕ, _/_, _%_}
 use native.Mathlib.Omega.{arith}
 use lib.IntN.{pos}
-use Rattle.growthrows.specs.Drawing.{LowRows}
+use Rattle.drawnrows.specs.Drawing.{LowRows}
 use Rattle.rowstore.specs.Store.{madeRow, rowFound, withRow}
 use Rattle.fixedrows.proofs.FixedLaws.{parts-low, shape-drawn, three-parts}
 
