@@ -21,7 +21,8 @@ use Rattle.leaf.specs.Leaf.{openState}
 use Rattle.leaf.specs.Picture.{Pictured, Wanted}
 use Rattle.leaf.specs.Sheet.{HasRow, Sheet}
 use Rattle.leaf.proofs.SheetLaws.{noted-kept, noted-there, sheet-low, sheet-noted, sheet-room}
-use Rattle.fixedrows.specs.Stage.{Advances, FixedDrawn, Noted, RankDrawn, Stage, Staged, isDue}
+use Rattle.classrow.specs.ClassRow.{FixedDrawn}
+use Rattle.fixedrows.specs.Stage.{Advances, Noted, RankDrawn, Stage, Staged, isDue}
 
 module _ (leaf : Leaf) (at : List ℕ) (n c : ℕ) where
   pub record Due : Type 0 where

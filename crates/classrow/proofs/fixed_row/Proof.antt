@@ -1,11 +1,11 @@
 -- `fixed_row` meets its contract. Assumes nothing.
 use borrow.Author.Needs.{needs}
-use Rattle.fixedrows.proofs.fixed_row.Statement.{statement}
-use Rattle.fixedrows.proofs.fixed_row.Tie as tie
+use Rattle.classrow.proofs.fixed_row.Statement.{statement}
+use Rattle.classrow.proofs.fixed_row.Tie as tie
 use mathlib.Core.Path.{sym, subst}
 use Prim.Native.Nat.{ℕ, _<_}
 use native.Mathlib.Omega.{arith}
-use Rattle.fixedrows.proofs.FixedLaws.{by-constant, by-shape, by-single, single-below}
+use Rattle.classrow.proofs.FixedLaws.{by-constant, by-shape, by-single, single-below}
 
 shape-of-requires : tie.Need-shape-of-requires
 shape-of-requires c κs = search needs

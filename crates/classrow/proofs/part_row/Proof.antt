@@ -1,12 +1,12 @@
 -- `part_row` meets its contract. Assumes nothing.
 use borrow.Author.Needs.{needs}
-use Rattle.fixedrows.proofs.part_row.Statement.{statement}
-use Rattle.fixedrows.proofs.part_row.Tie as tie
+use Rattle.classrow.proofs.part_row.Statement.{statement}
+use Rattle.classrow.proofs.part_row.Tie as tie
 use mathlib.Core.Path.{_∙_, ap, sym, subst}
 use Prim.Native.Nat.{ℕ, _-_, _<_}
 use native.Mathlib.Omega.{arith}
 use lib.ListN.{getD}
-use Rattle.fixedrows.proofs.FixedLaws.{part-missing, part-there}
+use Rattle.classrow.proofs.FixedLaws.{part-missing, part-there}
 
 many-requires : tie.Need-many-requires
 many-requires c κs = search needs

@@ -31,7 +31,7 @@ use Rattle.leaf.specs.declared.Leaf.{Leaf}
 use Rattle.leaf.specs.Leaf.{LeafFits, openState}
 use Rattle.leaf.specs.Picture.{ConstantIs, SingleIs, partClass}
 use Rattle.leaf.specs.Sheet.{HasRow}
-use Rattle.fixedrows.specs.Stage.{AtLow, ConstantDrawn, FixedDrawn, ShapeDrawn, SingleDrawn, partRow}
+use Rattle.classrow.specs.ClassRow.{AtLow, ConstantDrawn, FixedDrawn, ShapeDrawn, SingleDrawn, partRow}
 
 -- ---- rows over rows of parts
 

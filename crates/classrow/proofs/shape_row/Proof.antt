@@ -1,7 +1,7 @@
 -- `shape_row` meets its contract. Assumes nothing.
 use borrow.Author.Needs.{needs}
-use Rattle.fixedrows.proofs.shape_row.Statement.{statement}
-use Rattle.fixedrows.proofs.shape_row.Tie as tie
+use Rattle.classrow.proofs.shape_row.Statement.{statement}
+use Rattle.classrow.proofs.shape_row.Tie as tie
 use mathlib.Core.Path.{_∙_, ap, sym, subst}
 use mathlib.Core.List.{List, map}
 use Prim.Native.Nat.{ℕ, _/_, _%_}
@@ -9,7 +9,7 @@ use native.Mathlib.Omega.{arith}
 use lib.IntN.{pos}
 use Rattle.drawnrows.specs.Drawing.{LowRows}
 use Rattle.rowstore.specs.Store.{madeRow, rowFound, withRow}
-use Rattle.fixedrows.proofs.FixedLaws.{parts-low, shape-drawn, three-parts}
+use Rattle.classrow.proofs.FixedLaws.{parts-low, shape-drawn, three-parts}
 
 mul-less-word : tie.Need-mul-less-word
 mul-less-word c = search needs

@@ -1,8 +1,8 @@
 -- `constant_row` meets its contract. Assumes nothing.
 use borrow.Author.Needs.{needs}
-use Rattle.fixedrows.proofs.constant_row.Statement.{statement}
-use Rattle.fixedrows.proofs.constant_row.Tie as tie
-use Rattle.fixedrows.proofs.FixedLaws.{constant-drawn}
+use Rattle.classrow.proofs.constant_row.Statement.{statement}
+use Rattle.classrow.proofs.constant_row.Tie as tie
+use Rattle.classrow.proofs.FixedLaws.{constant-drawn}
 use mathlib.Core.Path.{_∙_}
 use mir.Facts.{toZ-ofZ}
 use mir.Syntax.{w32}

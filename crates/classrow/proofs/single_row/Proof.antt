@@ -5,9 +5,9 @@ use Rattle.splits.specs.Choice.{lowestIn}
 use mathlib.Core.Path.{_∙_, ap}
 use native.Mathlib.Omega.{arith}
 use lib.Count.{trailing-le}
-use Rattle.fixedrows.proofs.FixedLaws.{none-low, single-drawn}
-use Rattle.fixedrows.proofs.single_row.Statement.{statement}
-use Rattle.fixedrows.proofs.single_row.Tie as tie
+use Rattle.classrow.proofs.FixedLaws.{none-low, single-drawn}
+use Rattle.classrow.proofs.single_row.Statement.{statement}
+use Rattle.classrow.proofs.single_row.Tie as tie
 
 element-copy-out-less : tie.Need-element-copy-out-less
 element-copy-out-less c = search needs
