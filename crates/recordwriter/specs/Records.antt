@@ -11,13 +11,7 @@ use Rattle.reader.specs.declared.Tables.{Tables}
 use Rattle.reader.specs.Reader.{guardTables}
 use Rattle.search.specs.Nodes.{Accepted}
 use Rattle.refutations.specs.Record.{recordBytes}
-use Rattle.bytebuffer.specs.declared.End.{End}
-use Rattle.bytebuffer.specs.Puts.{Puts}
 use Rattle.recordwriter.specs.declared.Written.{Written}
-
--- the record of a guard that a reader took, from the start of the buffer on
-pub record RootPuts (tables : Tables) (out : List ℕ) (r : End) (out′ : List ℕ) : Type 0 where
-  pub puts : (g : Guard) → Accepted g → tables ≡ guardTables g → Puts (recordBytes g) out 0 r out′
 
 -- bytes, and then zeros: "the rest is 0"; nothing but zeros where they outgrow so much room
 abbrev pub filled : List ℕ → ℕ → List ℕ

@@ -4,9 +4,9 @@ use native.Mathlib.Omega.{arith}
 use borrow.Author.Needs.{needs}
 use Rattle.classes.specs.Held.{state}
 use Rattle.search.proofs.RootLaws.{arrays-fit, fit-root, literals-fit-here, shapes-fit-here, sorts-fit-here}
-use Rattle.recordwriter.proofs.RecordLaws.{root-puts}
-use Rattle.recordwriter.proofs.write_root.Statement.{statement}
-use Rattle.recordwriter.proofs.write_root.Tie as tie
+use Rattle.rootwriter.proofs.RootPuts.{root-puts}
+use Rattle.rootwriter.proofs.write_root.Statement.{statement}
+use Rattle.rootwriter.proofs.write_root.Tie as tie
 
 -- ---- places
 
