@@ -10,7 +10,7 @@ ghost use Prim.Native.Nat.{_≤_, _<_};
 ghost use lib.ListN.{length};
 ghost use Rattle.problem.specs.Columns.{problemBy};
 ghost use Rattle.classes.specs.Held.{Held, state};
-ghost use Rattle.search.specs.Nodes.{GuardsTables};
+ghost use Rattle.roots.specs.Roots.{GuardsTables};
 ghost use Rattle.forms.specs.Forms.{FormsFit, typesIn};
 ghost use Rattle.leaf.specs.Leaf.{LeafFits, openState};
 ghost use Rattle.freerows.specs.Free.{Blank, FreeFits};

@@ -20,8 +20,8 @@ use Rattle.reader.specs.Reader.{guardTables, tablesAt}
 use Rattle.problem.specs.declared.Problem.{Problem}
 use Rattle.problem.specs.Columns.{problemBy}
 use Rattle.search.specs.Nodes.{Accepted}
-use Rattle.search.proofs.RootLaws.{arrays-of, givenIn, root-begun}
-use Rattle.search.proofs.TablesRead.{guard-accepted, guard-tables, refused-file, taken-file}
+use Rattle.roots.proofs.RootLaws.{arrays-of, givenIn, root-begun}
+use Rattle.roots.proofs.TablesRead.{guard-accepted, guard-tables, refused-file, taken-file}
 use Rattle.refutations.specs.Checker.{check, checkFrom, checked, noMore}
 use Rattle.refutations.proofs.Theorems.{file-refused, file-taken}
 use Rattle.nodechecker.specs.declared.NodeRead.{NodeRead}

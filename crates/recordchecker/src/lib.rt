@@ -5,7 +5,7 @@ use reader::Tables;
 ghost use mathlib.Core.Path.{_≡_};
 ghost use Rattle.guard.specs.Limits.{base};
 ghost use Rattle.problem.specs.Columns.{problemBy};
-ghost use Rattle.search.specs.Nodes.{GuardsTables};
+ghost use Rattle.roots.specs.Roots.{GuardsTables};
 ghost use Rattle.refutations.specs.Checker.{checked};
 ghost use Rattle.recordchecker.specs.Checks.{ChecksRoot, ChecksTables, answer};
 

@@ -11,7 +11,8 @@ use Rattle.laws.proofs.Bools.{by-test}
 use Rattle.guard.specs.Guard.{Guard}
 use Rattle.reader.specs.declared.Tables.{Tables}
 use Rattle.reader.specs.Reader.{guardTables}
-use Rattle.search.specs.Nodes.{Accepted, GuardsTables}
+use Rattle.search.specs.Nodes.{Accepted}
+use Rattle.roots.specs.Roots.{GuardsTables}
 use Rattle.refutations.specs.Record.{recordBytes}
 use Rattle.bytebuffer.specs.declared.End.{End}
 use Rattle.rootwriter.specs.RootRecord.{RootPuts}

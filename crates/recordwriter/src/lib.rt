@@ -4,7 +4,7 @@ use reader::Tables;
 ghost use mathlib.Core.Path.{_≡_};
 ghost use lib.ListN.{length};
 ghost use Rattle.problem.specs.Columns.{problemBy};
-ghost use Rattle.search.specs.Nodes.{GuardsTables};
+ghost use Rattle.roots.specs.Roots.{GuardsTables};
 ghost use Rattle.recordwriter.specs.Records.{IsRecord, Records};
 
 // Whether the whole record fits, and how many bytes it has then.

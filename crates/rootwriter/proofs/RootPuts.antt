@@ -7,7 +7,7 @@ use Rattle.guard.proofs.ClosureEnds.{first}
 use Rattle.reader.specs.declared.Tables.{Tables}
 use Rattle.problem.specs.declared.Problem.{Problem}
 use Rattle.problem.specs.Columns.{problemBy}
-use Rattle.search.proofs.RootLaws.{arrays-of, givenIn, root-begun}
+use Rattle.roots.proofs.RootLaws.{arrays-of, givenIn, root-begun}
 use Rattle.refutations.specs.Record.{recordOf}
 use Rattle.bytebuffer.specs.declared.End.{End}
 use Rattle.nodewriter.specs.Writes.{Writes}

@@ -4,7 +4,7 @@ use problem::Problem;
 use reader::Tables;
 ghost use mathlib.Core.Path.{_≡_};
 ghost use Rattle.problem.specs.Columns.{problemBy};
-ghost use Rattle.search.specs.Nodes.{GuardsTables};
+ghost use Rattle.roots.specs.Roots.{GuardsTables};
 ghost use Rattle.rootwriter.specs.RootRecord.{RootPuts};
 
 // The record of an accepted guard with its problem, into the buffer from its start on.

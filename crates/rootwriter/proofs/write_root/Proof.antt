@@ -3,7 +3,7 @@ use mathlib.Core.Path.{refl}
 use native.Mathlib.Omega.{arith}
 use borrow.Author.Needs.{needs}
 use Rattle.classes.specs.Held.{state}
-use Rattle.search.proofs.RootLaws.{arrays-fit, fit-root, literals-fit-here, shapes-fit-here, sorts-fit-here}
+use Rattle.roots.proofs.RootLaws.{arrays-fit, fit-root, literals-fit-here, shapes-fit-here, sorts-fit-here}
 use Rattle.rootwriter.proofs.RootPuts.{root-puts}
 use Rattle.rootwriter.proofs.write_root.Statement.{statement}
 use Rattle.rootwriter.proofs.write_root.Tie as tie

@@ -21,7 +21,8 @@ use Rattle.literalreader.proofs.TidyLiterals.{tidy-literals}
 use Rattle.reader.specs.Reader.{asTables, guardTables, noTables, tablesAt}
 use Rattle.reader.specs.declared.Tables.{Tables}
 use Rattle.reader.proofs.FileParts.{afterRows, afterTypes, file-parts}
-use Rattle.search.specs.Nodes.{Accepted, GuardsTables}
+use Rattle.search.specs.Nodes.{Accepted}
+use Rattle.roots.specs.Roots.{GuardsTables}
 
 tidy-file : (limits : Limits) → Tidy (file limits) Any
 tidy-file limits =
