@@ -38,8 +38,10 @@ use Rattle.cycles.specs.Cycles.{Tells}
 use Rattle.cycles.proofs.CycleLaws.{inside-is, is-inside}
 use Rattle.refutations.specs.Record.{Entry.splitOn, claim, lineAt, named}
 use Rattle.refutations.proofs.ClaimLaws.{of-term, term-of}
-use Rattle.claims.specs.Claims.{ClosedBy, InsideTerm, entryAt, isTerm, splitsBy, unlikeIn}
-use Rattle.claims.proofs.UnlikeLaws.{unlike-same}
+use Rattle.unlikeconstants.specs.Unlike.{unlikeIn}
+use Rattle.splitclaims.specs.SplitClaims.{isTerm, splitsBy}
+use Rattle.claims.specs.Claims.{ClosedBy, InsideTerm, entryAt}
+use Rattle.unlikeconstants.proofs.UnlikeLaws.{unlike-same}
 
 -- ---- lines
 

@@ -29,7 +29,8 @@ use Rattle.search.proofs.ClosedState.{agreed, arrived, is-begins, isnt-begins, 
 use Rattle.refutations.specs.Checker.{below, checkFrom, checkNode, entry}
 use Rattle.refutations.specs.Record.{Entry, Entry.splitOn, claim}
 use Rattle.refutations.proofs.Depth.{check-step}
-use Rattle.claims.specs.Claims.{ClosedBy, entryAt, splitsBy}
+use Rattle.splitclaims.specs.SplitClaims.{splitsBy}
+use Rattle.claims.specs.Claims.{ClosedBy, entryAt}
 use Rattle.refutations.proofs.ClaimsAgree.{claim-agrees}
 use Rattle.claims.proofs.ClaimsSame.{closes-same, splits-same}
 use Rattle.entryreader.specs.declared.EntryRead.{EntryRead}

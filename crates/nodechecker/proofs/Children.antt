@@ -16,8 +16,8 @@ use Rattle.passes.proofs.PassLaws.{steps-keep}
 use Rattle.search.specs.Nodes.{StateFit}
 use Rattle.search.proofs.Decisions.{fit-steps}
 use Rattle.search.proofs.Measure.{is-lower, isnt-lower, labelSum, sum-le}
-use Rattle.claims.specs.Claims.{isTerm, splitsBy}
-use Rattle.claims.proofs.ClaimTests.{term-small}
+use Rattle.splitclaims.specs.SplitClaims.{isTerm, splitsBy}
+use Rattle.splitclaims.proofs.SplitTests.{term-small}
 
 module _ (sorts : List ℕ) (s : State) (x v : ℕ) (e : splitsBy sorts s x v ≡ true) where
   pub split-term : x < 78

@@ -84,7 +84,7 @@ pub fn check_node(
             at: e.at,
         };
     }
-    if !claims::splits(classes, labels, sorts, e.first, e.second) {
+    if !splitclaims::splits(classes, labels, sorts, e.first, e.second) {
         return no_node(12);
     }
     let term = e.first as u8;

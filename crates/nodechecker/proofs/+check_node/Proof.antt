@@ -13,7 +13,7 @@ use Rattle.saturation.proofs.saturate_fully.Reads as saturate-fully-reads
 use Rattle.search.proofs.Decisions.{bit-most, fit-add, fit-steps}
 use Rattle.search.proofs.Measure.{labelSum}
 use Rattle.claims.proofs.closes.Reads as closes-reads
-use Rattle.claims.proofs.splits.Reads as splits-reads
+use Rattle.splitclaims.proofs.splits.Reads as splits-reads
 use Rattle.entryreader.proofs.read_entry.Reads as read-entry-reads
 use Rattle.nodechecker.proofs.Children.{is-falls, isnt-falls, split-term, split-variant}
 use Rattle.nodechecker.proofs.CheckLaws.{closed, first-refused, no-entry, no-split, not-closed, record-ends, second-tells}

@@ -5,9 +5,9 @@ use lib.ListN.{getD}
 use native.Mathlib.Omega.{arith}
 use borrow.Author.Needs.{needs}
 use Rattle.constants.proofs.ConstantTests.{constant-small}
-use Rattle.claims.proofs.ClaimTests.{a-constant, no-constant}
-use Rattle.claims.proofs.is_constant_of.Statement.{statement}
-use Rattle.claims.proofs.is_constant_of.Tie as tie
+use Rattle.unlikeconstants.proofs.UnlikeTests.{a-constant, no-constant}
+use Rattle.unlikeconstants.proofs.is_constant_of.Statement.{statement}
+use Rattle.unlikeconstants.proofs.is_constant_of.Tie as tie
 
 element-copy-out-if1 : tie.Need-element-copy-out-if1
 element-copy-out-if1 c = search needs

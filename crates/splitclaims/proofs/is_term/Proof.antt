@@ -1,8 +1,8 @@
 -- `is_term` meets its contract. Assumes nothing.
 use borrow.Author.Needs.{needs}
-use Rattle.claims.proofs.ClaimTests.{term-inside, term-past}
-use Rattle.claims.proofs.is_term.Statement.{statement}
-use Rattle.claims.proofs.is_term.Tie as tie
+use Rattle.splitclaims.proofs.SplitTests.{term-inside, term-past}
+use Rattle.splitclaims.proofs.is_term.Statement.{statement}
+use Rattle.splitclaims.proofs.is_term.Tie as tie
 
 returns : tie.Need-returns
 returns c = let a = c .before .args in term-past (a .sorts .now) (a .x) (c .if1 .taken)

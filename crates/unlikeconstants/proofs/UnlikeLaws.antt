@@ -28,7 +28,7 @@ use Rattle.arrays.proofs.DueLaws.{is-nonzero, nonzero-is}
 use Rattle.constants.specs.Constants.{constantValue, isConstant}
 use Rattle.constants.proofs.ConstantSlots.{ConstantSlot, ConstantSlots, constant-slots}
 use Rattle.reasons.specs.Reasons.{constantClass}
-use Rattle.claims.specs.Claims.{constantOf, otherConstant, unlikeIn}
+use Rattle.unlikeconstants.specs.Unlike.{constantOf, otherConstant, unlikeIn}
 
 module _ (limits : Limits) (sup : Supported limits) (g : Guard) (ok : WellFormed limits g) (total : length (flat (g .types)) ≤ totalVariantLimit) (s : State) (x : Term) where
   abbrev t : Table

@@ -4,9 +4,9 @@ use Prim.Native.Nat.{_-_, _≤_}
 use native.Mathlib.Omega.{arith}
 use borrow.Author.Needs.{needs}
 use Rattle.loops.proofs.Loops.{NoneBelow, lowest-here, lowest-nowhere, none-next, none-yet}
-use Rattle.claims.specs.Claims.{constantOf}
-use Rattle.claims.proofs.first_constant.Statement.{statement}
-use Rattle.claims.proofs.first_constant.Tie as tie
+use Rattle.unlikeconstants.specs.Unlike.{constantOf}
+use Rattle.unlikeconstants.proofs.first_constant.Statement.{statement}
+use Rattle.unlikeconstants.proofs.first_constant.Tie as tie
 
 abbrev Inv-loop : tie.InvT-loop
 Inv-loop classes constants class k₀ k = (k ≤ 30) × NoneBelow (constantOf constants classes class) k

@@ -4,9 +4,9 @@ use native.Mathlib.Omega.{arith}
 use borrow.Author.Needs.{needs}
 use borrow.Author.Tests.{not-false, not-true}
 use Rattle.classes.specs.Held.{state}
-use Rattle.claims.proofs.ClaimTests.{holds-it, lacks-it, no-split, term-small, variant-past}
-use Rattle.claims.proofs.splits.Statement.{statement}
-use Rattle.claims.proofs.splits.Tie as tie
+use Rattle.splitclaims.proofs.SplitTests.{holds-it, lacks-it, no-split, term-small, variant-past}
+use Rattle.splitclaims.proofs.splits.Statement.{statement}
+use Rattle.splitclaims.proofs.splits.Tie as tie
 
 is-term-requires : tie.Need-is-term-requires
 is-term-requires c κs = search needs

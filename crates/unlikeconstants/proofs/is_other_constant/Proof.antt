@@ -3,9 +3,9 @@ use mathlib.Core.Path.{sym, _∙_}
 use borrow.Author.Needs.{needs}
 use borrow.Author.Tests.{not-false, not-true}
 use Rattle.constants.proofs.ConstantTests.{same-bits}
-use Rattle.claims.proofs.ClaimTests.{by-value, not-of}
-use Rattle.claims.proofs.is_other_constant.Statement.{statement}
-use Rattle.claims.proofs.is_other_constant.Tie as tie
+use Rattle.unlikeconstants.proofs.UnlikeTests.{by-value, not-of}
+use Rattle.unlikeconstants.proofs.is_other_constant.Statement.{statement}
+use Rattle.unlikeconstants.proofs.is_other_constant.Tie as tie
 
 is-constant-of-requires : tie.Need-is-constant-of-requires
 is-constant-of-requires c κs = search needs

@@ -5,10 +5,10 @@ use Prim.Native.Nat.{_-_, _≤_}
 use native.Mathlib.Omega.{arith}
 use borrow.Author.Needs.{needs}
 use Rattle.loops.proofs.Loops.{NoneBelow, any-here, any-nowhere, none-next, none-yet}
-use Rattle.claims.specs.Claims.{otherConstant}
-use Rattle.claims.proofs.ClaimTests.{by-first}
-use Rattle.claims.proofs.holds_unlike.Statement.{statement}
-use Rattle.claims.proofs.holds_unlike.Tie as tie
+use Rattle.unlikeconstants.specs.Unlike.{otherConstant}
+use Rattle.unlikeconstants.proofs.UnlikeTests.{by-first}
+use Rattle.unlikeconstants.proofs.holds_unlike.Statement.{statement}
+use Rattle.unlikeconstants.proofs.holds_unlike.Tie as tie
 
 abbrev Inv-loop : tie.InvT-loop
 Inv-loop classes constants values class first k₀ k = (k ≤ 30) × NoneBelow (otherConstant constants values classes class first) k
