@@ -23,11 +23,11 @@ use Rattle.growth.proofs.Plans.{Plan.into, plannedMessage}
 use Rattle.growthtables.specs.Growth.{growthBy}
 use Rattle.growthtables.specs.declared.Growth.{Growth}
 use Rattle.columns.proofs.Filled.{filled-at}
-use Rattle.growthrows.specs.declared.Forms.{Forms}
-use Rattle.growthrows.specs.Forms.{FormsFit, typesIn}
-use Rattle.growthrows.specs.Drawing.{Drew, NumberDrawn, Room, Store, Under}
-use Rattle.growthrows.proofs.DrawnLaws.{drew-after, drew-nothing, drew-room, drew-under, under-trans}
-use Rattle.growthrows.proofs.FormLaws.{period-read}
+use Rattle.forms.specs.declared.Forms.{Forms}
+use Rattle.forms.specs.Forms.{FormsFit, typesIn}
+use Rattle.drawnrows.specs.Drawing.{Drew, NumberDrawn, Room, Store, Under}
+use Rattle.drawnrows.proofs.DrawnLaws.{drew-after, drew-nothing, drew-room, drew-under, under-trans}
+use Rattle.forms.proofs.FormLaws.{period-read}
 use Rattle.growthrows.proofs.StepLaws.{Grew, grew-type}
 use Rattle.chains.specs.Chains.{LapNoted, Starts, TopsTyped, lapMessage, topFrom, topMessage}
 

@@ -1,7 +1,7 @@
 // Rows of growth: a variant over growth to a number, or down to a root and round its cycle. What goes round one cycle makes
 // one chain, each a lap longer than the one before, so no row of it is drawn twice. `specs/Chains.antt` says what is drawn.
-use growthrows::Drawn;
-use growthrows::Forms;
+use drawnrows::Drawn;
+use forms::Forms;
 ghost use mathlib.Core.Path.{_≡_};
 ghost use Prim.Native.Nat.{suc, _+_, _*_, _≤_, _<_};
 ghost use lib.ListN.{length, set};
@@ -12,8 +12,8 @@ ghost use Rattle.growth.proofs.ClosedPlans.{lap};
 ghost use Rattle.growth.proofs.Growth.{Cyclic, GrowsBy, chosenType, distanceOf, growFrom, nextType, periodOf, rootOf, stepsToNumber, wrapIn};
 ghost use Rattle.growth.proofs.Orbit.{iterate};
 ghost use Rattle.growth.proofs.Plans.{Plan.into, plannedMessage};
-ghost use Rattle.growthrows.specs.Forms.{FormsFit, typesIn};
-ghost use Rattle.growthrows.specs.Drawing.{Drew, Room, Store, Under};
+ghost use Rattle.forms.specs.Forms.{FormsFit, typesIn};
+ghost use Rattle.drawnrows.specs.Drawing.{Drew, Room, Store, Under};
 ghost use Rattle.chains.specs.Chains.{LapNoted, Starts, TopsTyped, lapMessage, topMessage};
 
 // The type of the field in which variant `v` of type `t` grows.
@@ -24,8 +24,8 @@ pub fn start(forms: Forms, t: u8, v: u8) -> u8
     requires { ⌜ 0 < length (fieldsOf (typesIn forms) t v) ⌝ }
     ensures { λ r. ⌜ r ≡ chosenType (typesIn forms) t v ⌝ }
 {
-    let p = growthrows::chosen(forms, t, v);
-    growthrows::sort(forms, t, v, p as usize)
+    let p = forms::chosen(forms, t, v);
+    forms::sort(forms, t, v, p as usize)
 }
 
 // Variant `v` of type `t` over so many steps of growth from type `s`, that of its chosen field, which end in `row`.
@@ -74,8 +74,8 @@ pub fn ended_row(
 {
     let growth = forms.growth;
     let n = growth.steps[s as usize];
-    let u = growthrows::after(forms, n, s);
-    let e = growthrows::number_row(rows, many, u, z);
+    let u = forms::after(forms, n, s);
+    let e = drawnrows::number_row(rows, many, u, z);
     grown_row(forms, rows, drawn, e.many, t, v, s, n, e.row)
 }
 
@@ -102,7 +102,7 @@ fn top_row(
             many: many,
         };
     }
-    growthrows::default_row(forms, rows, drawn, many, root)
+    defaultrows::default_row(forms, rows, drawn, many, root)
 }
 
 // The rounds of a lap: with them growths of one root differ by more than every rank and every distance.

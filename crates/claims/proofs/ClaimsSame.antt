@@ -27,19 +27,21 @@ use Rattle.tables.proofs.Lookups.{map-at}
 use Rattle.classes.specs.Held.{Held}
 use Rattle.loops.proofs.Loops.{both}
 use Rattle.loops.proofs.Tests.{yes-and}
-use Rattle.problem.specs.Problem.{constantsOf, fieldlessOf, fullOf, shapesOf, sortsOf}
-use Rattle.problem.proofs.SlotLaws.{full-at}
-use Rattle.slots.specs.Slots.{sortAt}
-use Rattle.slots.proofs.DueLaws.{is-nonzero, nonzero-is}
-use Rattle.slots.proofs.GuardSlots.{sort-slots}
-use Rattle.slots.proofs.TableSlots.{SortSlots}
+use Rattle.arrays.specs.Arrays.{constantsOf, fieldlessOf, fullOf, shapesOf, sortsOf}
+use Rattle.arrays.proofs.SlotLaws.{full-at}
+use Rattle.arrays.specs.Slots.{sortAt}
+use Rattle.arrays.proofs.DueLaws.{is-nonzero, nonzero-is}
+use Rattle.arrays.proofs.GuardSlots.{sort-slots}
+use Rattle.arrays.proofs.TableSlots.{SortSlots}
 use Rattle.reasons.specs.Reasons.{brokenAt, emptyAt}
 use Rattle.cycles.specs.Cycles.{Tells}
 use Rattle.cycles.proofs.CycleLaws.{inside-is, is-inside}
 use Rattle.refutations.specs.Record.{Entry.splitOn, claim, lineAt, named}
 use Rattle.refutations.proofs.ClaimLaws.{of-term, term-of}
-use Rattle.claims.specs.Claims.{ClosedBy, InsideTerm, entryAt, isTerm, splitsBy, unlikeIn}
-use Rattle.claims.proofs.UnlikeLaws.{unlike-same}
+use Rattle.unlikeconstants.specs.Unlike.{unlikeIn}
+use Rattle.splitclaims.specs.SplitClaims.{isTerm, splitsBy}
+use Rattle.claims.specs.Claims.{ClosedBy, InsideTerm, entryAt}
+use Rattle.unlikeconstants.proofs.UnlikeLaws.{unlike-same}
 
 -- ---- lines
 

@@ -1,3 +1,2 @@
 pub mod ClaimTests
-pub mod UnlikeLaws
 pub mod ClaimsSame

@@ -1,84 +1,11 @@
-// What an entry of a record claims of a node, tested at its closure. The numbers of an entry come from a record, and may be any.
-ghost use mathlib.Core.Path.{_≡_};
+// What an entry of a record claims of a node that it closes: one of the four reasons, at a term or a line, tested at the node's closure. The
+// numbers of an entry come from a record, and may be any.
 ghost use Prim.Native.Nat.{_≤_, _<_};
 ghost use Rattle.classes.specs.Held.{Held, state};
-ghost use Rattle.loops.specs.Lowest.{lowest};
-ghost use Rattle.slots.specs.Slots.{ShapesFit, SortsFit};
+ghost use Rattle.arrays.specs.Slots.{ShapesFit, SortsFit};
 ghost use Rattle.reasons.specs.Reasons.{LinesFit};
 ghost use Rattle.cycles.specs.Cycles.{Tells};
-ghost use Rattle.claims.specs.Claims.{BrokenLine, ClosedBy, EmptyTerm, InsideTerm, UnlikeTerm, constantOf, isTerm, otherConstant, splitsBy, unlikeIn};
-
-// Whether there is a term of this number.
-fn is_term(sorts: &[u8; 96], x: u32) -> bool
-    ensures { λ r. ⌜ r ≡ isTerm (now (sorts .entry)) x ⌝ }
-{
-    if 78 <= x {
-        return false;
-    }
-    sorts[x as usize] != 0
-}
-
-// ---- constants
-
-// Whether slot `k` has a constant of this class.
-fn is_constant_of(classes: &[u8; 96], constants: &[u8; 32], class: u8, k: usize) -> bool
-    requires { ⌜ k < 30 ⌝ }
-    ensures { λ r. ⌜ r ≡ constantOf (now (constants .entry)) (now (classes .entry)) class k ⌝ }
-{
-    if constants[k] == 0 {
-        return false;
-    }
-    classes::class_of(classes, given::constant_term(k)) == class
-}
-
-// The lowest slot that has one; 30 if there is none.
-fn first_constant(classes: &[u8; 96], constants: &[u8; 32], class: u8) -> usize
-    ensures { λ r. ⌜ r ≡ lowest (constantOf (now (constants .entry)) (now (classes .entry)) class) 30 ⌝ }
-{
-    let mut k: usize = 0;
-    while k < 30 {
-        if is_constant_of(classes, constants, class, k) {
-            return k;
-        }
-        k += 1;
-    }
-    30
-}
-
-// Whether slot `k` has one, of another value than slot `first`.
-fn is_other_constant(
-    classes: &[u8; 96],
-    constants: &[u8; 32],
-    values: &[i32; 24],
-    class: u8,
-    first: usize,
-    k: usize,
-) -> bool
-    requires { ⌜ k < 30 ⌝ }
-    ensures { λ r. ⌜ r ≡ otherConstant (now (constants .entry)) (now (values .entry)) (now (classes .entry)) class first k ⌝ }
-{
-    if !is_constant_of(classes, constants, class, k) {
-        return false;
-    }
-    given::constant_value(values, k) != given::constant_value(values, first)
-}
-
-// Whether a class holds two constants of different value: one differs from the first.
-fn holds_unlike(classes: &[u8; 96], constants: &[u8; 32], values: &[i32; 24], class: u8) -> bool
-    ensures { λ r. ⌜ r ≡ unlikeIn (now (constants .entry)) (now (values .entry)) (now (classes .entry)) class ⌝ }
-{
-    let first = first_constant(classes, constants, class);
-    let mut k: usize = 0;
-    while k < 30 {
-        if is_other_constant(classes, constants, values, class, first, k) {
-            return true;
-        }
-        k += 1;
-    }
-    false
-}
-
-// ---- the four reasons to close a node, at a term or a line
+ghost use Rattle.claims.specs.Claims.{BrokenLine, ClosedBy, EmptyTerm, InsideTerm, UnlikeTerm};
 
 fn is_empty(
     classes: &[u8; 96],
@@ -91,7 +18,7 @@ fn is_empty(
     requires { ⌜ SortsFit (now sorts) ⌝ }
     ensures { λ r. ⌜ Tells (EmptyTerm (now (sorts .entry)) (now (full .entry)) (state (now (classes .entry)) (now (labels .entry))) x) r ⌝ }
 {
-    if !is_term(sorts, x) {
+    if !splitclaims::is_term(sorts, x) {
         return false;
     }
     reasons::is_empty(classes, labels, sorts, full, x as usize)
@@ -124,10 +51,10 @@ fn is_unlike(
 ) -> bool
     ensures { λ r. ⌜ Tells (UnlikeTerm (now (sorts .entry)) (now (constants .entry)) (now (values .entry)) (now (classes .entry)) x) r ⌝ }
 {
-    if !is_term(sorts, x) {
+    if !splitclaims::is_term(sorts, x) {
         return false;
     }
-    holds_unlike(
+    unlikeconstants::holds_unlike(
         classes,
         constants,
         values,
@@ -187,24 +114,4 @@ pub fn closes(
         return is_unlike(classes, sorts, constants, values, number);
     }
     is_inside(classes, labels, shapes, sorts, number)
-}
-
-// ---- splits
-
-// Whether there is a term of this number, and its label holds the variant and another one.
-pub fn splits(classes: &[u8; 96], labels: &[u16; 96], sorts: &[u8; 96], x: u32, v: u32) -> bool
-    requires { ⌜ Held (now classes) ⌝ }
-    ensures { λ r. ⌜ r ≡ splitsBy (now (sorts .entry)) (state (now (classes .entry)) (now (labels .entry))) x v ⌝ }
-{
-    if !is_term(sorts, x) {
-        return false;
-    }
-    if 16 <= v {
-        return false;
-    }
-    let label = slots::label_at(classes, labels, x as usize);
-    if labels::lacks(label, v) {
-        return false;
-    }
-    label != labels::only(v)
 }

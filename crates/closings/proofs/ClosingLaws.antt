@@ -33,11 +33,11 @@ use Rattle.classes.specs.Held.{Held}
 use Rattle.loops.specs.Lowest.{lowest}
 use Rattle.loops.proofs.Loops.{both}
 use Rattle.loops.proofs.Tests.{no-and}
-use Rattle.problem.specs.Problem.{constantsOf, fieldlessOf, fullOf, shapesOf, sortsOf}
-use Rattle.problem.proofs.SlotLaws.{full-at, full-none}
-use Rattle.slots.specs.Slots.{sortAt}
-use Rattle.slots.proofs.GuardSlots.{sort-slots}
-use Rattle.slots.proofs.TableSlots.{SortSlots}
+use Rattle.arrays.specs.Arrays.{constantsOf, fieldlessOf, fullOf, shapesOf, sortsOf}
+use Rattle.arrays.proofs.SlotLaws.{full-at, full-none}
+use Rattle.arrays.specs.Slots.{sortAt}
+use Rattle.arrays.proofs.GuardSlots.{sort-slots}
+use Rattle.arrays.proofs.TableSlots.{SortSlots}
 use Rattle.reasons.specs.Reasons.{brokenAt, emptyAt}
 use Rattle.cycles.specs.Cycles.{Inside, LowestOf, insideTerm}
 use Rattle.cycles.proofs.CycleLaws.{named}

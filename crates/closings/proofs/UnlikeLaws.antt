@@ -28,10 +28,10 @@ use Rattle.models.proofs.TypedTable.{table-typed}
 use Rattle.tables.specs.Layout.{flat, rowTable}
 use Rattle.loops.specs.Lowest.{lowest}
 use Rattle.loops.proofs.Loops.{NoneBelow, lowest-here, lowest-nowhere}
-use Rattle.problem.specs.Problem.{constantsOf}
-use Rattle.slots.proofs.DueLaws.{nonzero-is}
-use Rattle.given.specs.Facts.{constantTerm, constantValue, isConstant}
-use Rattle.given.proofs.ConstantSlots.{ConstantSlot, ConstantSlots, constant-slots}
+use Rattle.arrays.specs.Arrays.{constantsOf}
+use Rattle.arrays.proofs.DueLaws.{nonzero-is}
+use Rattle.constants.specs.Constants.{constantTerm, constantValue, isConstant}
+use Rattle.constants.proofs.ConstantSlots.{ConstantSlot, ConstantSlots, constant-slots}
 use Rattle.reasons.specs.Reasons.{constantClass, unlike, unlikeAt, unlikeBefore}
 use Rattle.reasons.proofs.Constants.{unlike-yes}
 use Rattle.refutations.specs.Record.{Entry, claim, named}

@@ -5,7 +5,7 @@ use reasons::empty_label;
 use reasons::unlike_constants;
 ghost use Prim.Native.Nat.{_≤_};
 ghost use Rattle.classes.specs.Held.{Held, state};
-ghost use Rattle.slots.specs.Slots.{ShapesFit, SortsFit};
+ghost use Rattle.arrays.specs.Slots.{ShapesFit, SortsFit};
 ghost use Rattle.labelled.specs.Covers.{Covers, hasMask};
 ghost use Rattle.reasons.specs.Reasons.{LinesFit};
 ghost use Rattle.closings.specs.Closing.{Names};

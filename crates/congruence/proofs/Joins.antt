@@ -20,7 +20,7 @@ use Rattle.guard.proofs.ClosureState.{Keeps}
 use Rattle.loops.proofs.Tests.{second-decides}
 use Rattle.passes.specs.Pass.{Pass}
 use Rattle.passes.proofs.PassLaws.{first-changed, none-due, not-due, second-tells, settled, skipped, steps-keep, united}
-use Rattle.slots.specs.Slots.{ShapesFit, active, kindAt, manyAt, othersAt, ownerAt, partAt}
+use Rattle.arrays.specs.Slots.{ShapesFit, active, kindAt, manyAt, othersAt, ownerAt, partAt}
 use Rattle.congruence.specs.Due.{alike, ownersDue, partDue, partsDue, sameOwners, sameParts, shapeDue, shapesMeet}
 use Rattle.congruence.proofs.Tests.{inactive, unlike}
 

@@ -18,11 +18,11 @@ use Rattle.guard.specs.Terms.{Build, Table}
 use Rattle.guard.specs.Types.{fieldsOf}
 use Rattle.guard.proofs.AnyOrder.{Follows, Follows.by-built}
 use Rattle.guard.proofs.ClosureState.{Small}
-use Rattle.problem.specs.Problem.{kindNumber}
-use Rattle.slots.specs.Slots.{active, kindAt, manyAt, ownerAt, partAt}
-use Rattle.slots.proofs.ActiveSlots.{ActiveSlot, BuildSlot, active-build, build-active}
-use Rattle.slots.proofs.TableSlots.{ShapeSlot, ShapeSlots}
-use Rattle.slots.proofs.DueLaws.{either-order, mem-one, mem-when, moved, one-is, one-quiet, quiet-one, slots-are, slots-at}
+use Rattle.arrays.specs.Arrays.{kindNumber}
+use Rattle.arrays.specs.Slots.{active, kindAt, manyAt, ownerAt, partAt}
+use Rattle.arrays.proofs.ActiveSlots.{ActiveSlot, BuildSlot, active-build, build-active}
+use Rattle.arrays.proofs.TableSlots.{ShapeSlot, ShapeSlots}
+use Rattle.arrays.proofs.DueLaws.{either-order, mem-one, mem-when, moved, one-is, one-quiet, quiet-one, slots-are, slots-at}
 use Rattle.congruence.specs.Due.{alike, ownersDue, partDue, partsDue, sameOwners, sameParts, shapeDue, shapesDue, shapesMeet}
 
 -- ---- parts by position

@@ -12,7 +12,7 @@ use Rattle.laws.proofs.Lists.{all-true, all-true-inv, from-bounds, mem-from}
 use Rattle.guard.specs.Closure.{Fact.same, State, sameClass}
 use Rattle.loops.proofs.Tests.{no-and, yes-and}
 use Rattle.passes.proofs.PassLaws.{none-due}
-use Rattle.slots.specs.Slots.{active, kindAt, manyAt, ownerAt, partAt}
+use Rattle.arrays.specs.Slots.{active, kindAt, manyAt, ownerAt, partAt}
 use Rattle.congruence.specs.Due.{alike, ownersDue, partDue, partsDue, sameParts, shapeDue, shapesMeet}
 
 module _ (shapes : List ℕ) (s : State) (k : ℕ) where

@@ -6,7 +6,7 @@ use Prim.Native.Nat.{ℕ}
 use lib.Dec.{eqb}
 use Rattle.laws.specs.Lists.{all, concatMap, from, when}
 use Rattle.guard.specs.Closure.{Fact, Fact.same, State, sameClass}
-use Rattle.slots.specs.Slots.{active, kindAt, manyAt, ownerAt, partAt}
+use Rattle.arrays.specs.Slots.{active, kindAt, manyAt, ownerAt, partAt}
 
 module _ (shapes : List ℕ) (s : State) where
   -- two terms built by one variant

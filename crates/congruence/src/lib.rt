@@ -4,7 +4,7 @@ ghost use mathlib.Core.Bool.{true};
 ghost use Prim.Native.Nat.{_<_};
 ghost use Rattle.classes.specs.Held.{Held, state};
 ghost use Rattle.passes.specs.Pass.{Pass};
-ghost use Rattle.slots.specs.Slots.{ShapesFit};
+ghost use Rattle.arrays.specs.Slots.{ShapesFit};
 ghost use Rattle.congruence.specs.Due.{alike, partsDue, sameOwners, sameParts, shapeDue, shapesMeet};
 use slots::active;
 use slots::kind;

@@ -26,12 +26,12 @@ use Rattle.tables.specs.Layout.{flat}
 use Rattle.classes.specs.Held.{Held}
 use Rattle.loops.specs.Lowest.{lowest}
 use Rattle.loops.proofs.Loops.{found-same, lowest-here, lowest-nowhere}
-use Rattle.problem.specs.Problem.{fieldlessOf, shapesOf, sortsOf}
-use Rattle.slots.specs.Slots.{active, manyAt, sortAt}
-use Rattle.slots.proofs.DueLaws.{when-is}
-use Rattle.slots.proofs.GuardSlots.{shape-slots, sort-slots}
-use Rattle.slots.proofs.ActiveSlots.{ActiveSlot, BuildSlot, active-build, build-active}
-use Rattle.slots.proofs.TableSlots.{ShapeSlots, SortSlots}
+use Rattle.arrays.specs.Arrays.{fieldlessOf, shapesOf, sortsOf}
+use Rattle.arrays.specs.Slots.{active, manyAt, sortAt}
+use Rattle.arrays.proofs.DueLaws.{when-is}
+use Rattle.arrays.proofs.GuardSlots.{shape-slots, sort-slots}
+use Rattle.arrays.proofs.ActiveSlots.{ActiveSlot, BuildSlot, active-build, build-active}
+use Rattle.arrays.proofs.TableSlots.{ShapeSlots, SortSlots}
 use Rattle.ranks.proofs.CycleLaws.{parts-small}
 use Rattle.needed.specs.Needed.{ownClass, partClass}
 use Rattle.cycles.specs.Cycles.{Inside, LowestOf, PartOf, PartOf.its-part, PartOf.of-part, insideTerm}

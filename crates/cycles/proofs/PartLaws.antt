@@ -11,7 +11,7 @@ use borrow.Author.Tests.{eqb-false, eqb-true, ltb-false, ltb-true}
 use Rattle.laws.proofs.Bools.{by-test, either}
 use Rattle.laws.proofs.Stores.{set-cases}
 use Rattle.guard.specs.Closure.{State, classOf}
-use Rattle.slots.specs.Slots.{ownerAt, sortAt}
+use Rattle.arrays.specs.Slots.{ownerAt, sortAt}
 use Rattle.needed.specs.Needed.{AllFollowed, Leads, Marked, Steps, Steps.done, Steps.then, noMarks, ownClass, partClass}
 use Rattle.cycles.specs.Cycles.{Inside, LowestOf, PartOf, PartOf.its-part, PartOf.of-part, Tells}
 

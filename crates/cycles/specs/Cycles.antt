@@ -9,7 +9,7 @@ use Rattle.laws.specs.Lists.{any}
 use Rattle.guard.specs.Closure.{State, buildsAt, classOf}
 use Rattle.guard.specs.Node.{insideItself}
 use Rattle.guard.specs.Terms.{Table}
-use Rattle.slots.specs.Slots.{active, manyAt, sortAt}
+use Rattle.arrays.specs.Slots.{active, manyAt, sortAt}
 use Rattle.needed.specs.Needed.{ownClass, partClass}
 
 -- class d is a part of class c, through one built term or several

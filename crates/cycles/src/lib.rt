@@ -1,7 +1,7 @@
 // The lowest term whose class is a part of itself: the fourth reason to close a node, by name.
 ghost use Prim.Native.Nat.{_<_};
 ghost use Rattle.classes.specs.Held.{Held, state};
-ghost use Rattle.slots.specs.Slots.{ShapesFit};
+ghost use Rattle.arrays.specs.Slots.{ShapesFit};
 ghost use Rattle.cycles.specs.Cycles.{Inside, LowestOf, Tells};
 
 // Whether term `x` is there and its class is a part of itself: it is among the parts of itself and of what these have.

@@ -26,7 +26,7 @@ use Rattle.reader.specs.declared.Tables.{Tables}
 use Rattle.decide.specs.Decides.{Decides}
 use Rattle.searchanswer.specs.Searched.{AnswersTables}
 use Rattle.cleared.proofs.Cleared.{long-zero}
-use Rattle.search.proofs.TablesRead.{guard-accepted, guard-tables, refused-file, taken-file}
+use Rattle.roots.proofs.TablesRead.{guard-accepted, guard-tables, refused-file, taken-file}
 
 -- ---- verdicts and visits
 

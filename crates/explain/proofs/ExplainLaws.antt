@@ -18,8 +18,8 @@ use Rattle.guard.specs.declared.Answer.the-variants.{Refused, Sat, Unsat, Spent
 use Rattle.guard.proofs.Claims.{base-supported}
 use Rattle.reader.specs.declared.Tables.{Tables}
 use Rattle.reader.specs.Reader.{tablesAt}
-use Rattle.search.specs.Nodes.{GuardsTables}
-use Rattle.search.proofs.TablesRead.{guard-accepted, guard-tables}
+use Rattle.roots.specs.Roots.{GuardsTables}
+use Rattle.roots.proofs.TablesRead.{guard-accepted, guard-tables}
 use Rattle.refutations.specs.Record.{recordBytes}
 use Rattle.recordwriter.specs.declared.Written.{Written}
 use Rattle.bytebuffer.specs.Puts.{filled}

@@ -1,2 +1,1 @@
-pub mod FixedLaws
 pub mod StageLaws

@@ -13,7 +13,7 @@ use Rattle.laws.proofs.Bools.{and-both, and-left, and-right, by-test}
 use Rattle.guard.specs.Message.{Message}
 use Rattle.guard.specs.Types.{Types}
 use Rattle.rowstore.proofs.StoreLaws.{grown-itself, grown-twice}
-use Rattle.growthrows.specs.Drawing.{Drew}
+use Rattle.drawnrows.specs.Drawing.{Drew}
 use Rattle.plans.specs.Chosen.{isMarked}
 use Rattle.plans.specs.Plans.{OpenState, isFree, marked}
 use Rattle.leaf.specs.declared.Leaf.{Leaf}
@@ -21,7 +21,8 @@ use Rattle.leaf.specs.Leaf.{openState}
 use Rattle.leaf.specs.Picture.{Pictured, Wanted}
 use Rattle.leaf.specs.Sheet.{HasRow, Sheet}
 use Rattle.leaf.proofs.SheetLaws.{noted-kept, noted-there, sheet-low, sheet-noted, sheet-room}
-use Rattle.fixedrows.specs.Stage.{Advances, FixedDrawn, Noted, RankDrawn, Stage, Staged, isDue}
+use Rattle.classrow.specs.ClassRow.{FixedDrawn}
+use Rattle.fixedrows.specs.Stage.{Advances, Noted, RankDrawn, Stage, Staged, isDue}
 
 module _ (leaf : Leaf) (at : List ℕ) (n c : ℕ) where
   pub record Due : Type 0 where

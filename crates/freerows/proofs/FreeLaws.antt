@@ -27,10 +27,10 @@ use Rattle.growth.proofs.Grow.{grow-add}
 use Rattle.growth.proofs.Growth.{chosenField, chosenType, defaultOf-belongs, distanceOf, growFrom, growingVariant, next-less, nextType, rootOf, stepsToNumber, wrapIn}
 use Rattle.growth.proofs.Orbit.{distance-root, iterate, root-less}
 use Rattle.growth.proofs.Plans.{Plan.around, Plan.atOnce, Plan.into, plannedMessage}
-use Rattle.growthrows.specs.declared.Forms.{Forms}
-use Rattle.growthrows.specs.Forms.{FormsFit, typesIn}
-use Rattle.growthrows.specs.Drawing.{Drew, NumberDrawn}
-use Rattle.growthrows.proofs.FormLaws.{number-read}
+use Rattle.forms.specs.declared.Forms.{Forms}
+use Rattle.forms.specs.Forms.{FormsFit, typesIn}
+use Rattle.drawnrows.specs.Drawing.{Drew, NumberDrawn}
+use Rattle.forms.proofs.FormLaws.{number-read}
 use Rattle.plans.specs.Chosen.{sortIn, variantIn}
 use Rattle.plans.specs.Fresh.{freshAfter, nextFresh}
 use Rattle.plans.specs.Plans.{OpenState, circledBefore, circling, endFor, endsBefore, freeClasses, highestRank, isFree, planFor, rootOfClass, sortFor, typeFor, variantFor}

@@ -15,9 +15,9 @@ use Rattle.guard.specs.Types.{Types}
 use Rattle.classes.specs.Held.{state}
 use Rattle.rowstore.specs.Store.{Grown, messageAt}
 use Rattle.rowstore.proofs.StoreLaws.{grown-itself, nothing-stored}
-use Rattle.growthrows.specs.Drawing.{Under}
-use Rattle.growthrows.proofs.DefaultRowLaws.{unset-set}
-use Rattle.growthrows.proofs.DrawnLaws.{drew-kept, drew-under}
+use Rattle.drawnrows.specs.Drawing.{Under}
+use Rattle.defaultrows.proofs.DefaultRowLaws.{unset-set}
+use Rattle.drawnrows.proofs.DrawnLaws.{drew-kept, drew-under}
 use Rattle.plans.specs.Chosen.{freeAt, higherAt, highestBelow, highestOf, isMarked}
 use Rattle.plans.specs.Fresh.{freshAfter}
 use Rattle.plans.specs.Plans.{OpenState, circling, highestRank, isFree, marked}

@@ -12,7 +12,7 @@ use Rattle.rowstore.specs.Store.{Grown, messageAt}
 use Rattle.growth.proofs.ClosedPlans.{lap}
 use Rattle.growth.proofs.Growth.{growFrom}
 use Rattle.growth.proofs.Plans.{plannedMessage}
-use Rattle.growthrows.specs.Drawing.{Drew, Room, Store, Under, unset}
+use Rattle.drawnrows.specs.Drawing.{Drew, Room, Store, Under, unset}
 use Rattle.plans.specs.Fresh.{freshAfter}
 use Rattle.plans.specs.Plans.{OpenState, circledBefore, endsBefore, highestRank, isFree, planFor, sortFor, typeFor, variantFor}
 use Rattle.leaf.specs.Leaf.{openState}

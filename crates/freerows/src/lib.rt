@@ -1,6 +1,6 @@
 // Rows for the free classes of an open node, in order: each class gets the message that its plan says. Classes whose growth
 // goes round one cycle make one chain (`chains`). `specs/Free.antt` says what is drawn.
-use growthrows::Forms;
+use forms::Forms;
 use leaf::Leaf;
 ghost use mathlib.Core.Path.{_≡_};
 ghost use mathlib.Core.Bool.{true, false};
@@ -11,8 +11,8 @@ ghost use Rattle.guard.specs.Types.{isNumber};
 ghost use Rattle.rowstore.specs.Store.{Grown};
 ghost use Rattle.growth.proofs.Growth.{chosenType, stepsToNumber};
 ghost use Rattle.growth.proofs.Plans.{Plan.into, plannedMessage};
-ghost use Rattle.growthrows.specs.Forms.{FormsFit, typesIn};
-ghost use Rattle.growthrows.specs.Drawing.{Drew, NumberDrawn, Room, Store};
+ghost use Rattle.forms.specs.Forms.{FormsFit, typesIn};
+ghost use Rattle.drawnrows.specs.Drawing.{Drew, NumberDrawn, Room, Store};
 ghost use Rattle.plans.specs.Fresh.{nextFresh};
 ghost use Rattle.plans.specs.Plans.{highestRank, isFree, typeFor};
 ghost use Rattle.leaf.specs.Leaf.{LeafFits, openState};
@@ -43,7 +43,7 @@ fn number_planned(leaf: Leaf, rows: &mut [i32], many: usize, last: u32, t: u8) -
     let constants = leaf.constants;
     let values = leaf.values;
     let z = plans::next_fresh(&constants, &values, last);
-    let d = growthrows::number_row(rows, many, t, z as i32);
+    let d = drawnrows::number_row(rows, many, t, z as i32);
     Planned {
         row: d.row,
         many: d.many,

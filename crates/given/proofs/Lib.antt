@@ -1,5 +1,2 @@
-pub mod Adding
 pub mod Cleared
-pub mod GivenTests
-pub mod ConstantSlots
 pub mod GivenLaws

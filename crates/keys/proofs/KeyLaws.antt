@@ -18,8 +18,8 @@ use Rattle.laws.proofs.Lists.{all-append, all-concatMap, all-true-inv, from-bou
 use Rattle.guard.specs.Closure.{Fact, State, classOf, holds, sameClass}
 use Rattle.passes.specs.Pass.{Due, Pass}
 use Rattle.passes.proofs.PassLaws.{one-more, settled, steps-more, upTo}
-use Rattle.slots.specs.Slots.{ShapesFit, active, kindAt, manyAt, ownerAt, partAt}
-use Rattle.slots.proofs.DueLaws.{quiet-one}
+use Rattle.arrays.specs.Slots.{ShapesFit, active, kindAt, manyAt, ownerAt, partAt}
+use Rattle.arrays.proofs.DueLaws.{quiet-one}
 use Rattle.congruence.specs.Due.{alike, ownersDue, partDue, partsDue, sameOwners, sameParts, shapeDue, shapesMeet}
 use Rattle.congruence.proofs.Tests.{inactive, unlike}
 use Rattle.keys.specs.Keys.{Agreed, Keyed, Quiet, kindByte, ownerKey, partsKey}

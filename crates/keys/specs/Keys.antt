@@ -8,7 +8,7 @@ use Prim.Native.Nat.{ℕ, _+_, _*_, _%_, _<_}
 use lib.Dec.{eqb}
 use lib.ListN.{getD, length}
 use Rattle.guard.specs.Closure.{State, classOf}
-use Rattle.slots.specs.Slots.{active, kindAt, ownerAt, partAt}
+use Rattle.arrays.specs.Slots.{active, kindAt, ownerAt, partAt}
 
 -- what is left of the kind, so that it fits beside three classes
 abbrev pub kindByte : List ℕ → ℕ → ℕ

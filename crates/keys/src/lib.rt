@@ -4,7 +4,7 @@ ghost use mathlib.Core.Bool.{false};
 ghost use Prim.Native.Nat.{_+_, _<_};
 ghost use Rattle.classes.specs.Held.{Held, state};
 ghost use Rattle.passes.specs.Pass.{Pass};
-ghost use Rattle.slots.specs.Slots.{ShapesFit};
+ghost use Rattle.arrays.specs.Slots.{ShapesFit};
 ghost use Rattle.congruence.specs.Due.{shapeDue, shapesDue};
 ghost use Rattle.keys.specs.Keys.{Keyed, Quiet, ownerKey, partsKey};
 use slots::active;

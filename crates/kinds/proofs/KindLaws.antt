@@ -30,15 +30,15 @@ use Rattle.models.proofs.Nodes.{NodeOf, OpenNode, TypedNode, alone-test, build-
 use Rattle.models.proofs.TypedTable.{termType}
 use Rattle.tables.specs.Layout.{flat, rowTable}
 use Rattle.loops.specs.Lowest.{lowest}
-use Rattle.problem.specs.Problem.{constantsOf, fieldlessOf, shapesOf, sortsOf}
-use Rattle.slots.specs.Slots.{active, fieldlessAt, onlyIs, sortAt}
-use Rattle.slots.proofs.GuardSlots.{shape-slots, sort-slots}
-use Rattle.slots.proofs.MaskLaws.{bit-fieldless, fieldless-bit}
+use Rattle.arrays.specs.Arrays.{constantsOf, fieldlessOf, shapesOf, sortsOf}
+use Rattle.arrays.specs.Slots.{active, fieldlessAt, onlyIs, sortAt}
+use Rattle.arrays.proofs.GuardSlots.{shape-slots, sort-slots}
+use Rattle.arrays.proofs.MaskLaws.{bit-fieldless, fieldless-bit}
 use Rattle.slots.proofs.OnlyOne.{one-left}
-use Rattle.slots.proofs.TableSlots.{ShapeSlot, SortSlots}
-use Rattle.slots.proofs.ActiveSlots.{active-build, build-active}
-use Rattle.given.specs.Facts.{constantValue, isConstant}
-use Rattle.given.proofs.ConstantSlots.{ConstantSlot, ConstantSlots, constant-slots}
+use Rattle.arrays.proofs.TableSlots.{ShapeSlot, SortSlots}
+use Rattle.arrays.proofs.ActiveSlots.{active-build, build-active}
+use Rattle.constants.specs.Constants.{constantValue, isConstant}
+use Rattle.constants.proofs.ConstantSlots.{ConstantSlot, ConstantSlots, constant-slots}
 use Rattle.splits.specs.Choice.{lowestIn}
 use Rattle.kinds.specs.Found.{constantOf, isFixed, isShape, isSingle, shapeOf, singleOf}
 

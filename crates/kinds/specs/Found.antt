@@ -7,8 +7,8 @@ use lib.Dec.{eqb, ltb}
 use Rattle.guard.specs.Closure.{State, classOf, labelOf}
 use Rattle.guard.specs.Limits.{variantLimit}
 use Rattle.loops.specs.Lowest.{lowest}
-use Rattle.slots.specs.Slots.{active, onlyIs, ownerAt}
-use Rattle.given.specs.Facts.{isConstant}
+use Rattle.arrays.specs.Slots.{active, onlyIs, ownerAt}
+use Rattle.constants.specs.Constants.{isConstant}
 use Rattle.reasons.specs.Reasons.{constantClass}
 use Rattle.splits.specs.Choice.{lowestIn}
 

@@ -2,7 +2,7 @@
 ghost use mathlib.Core.Path.{_≡_};
 ghost use Prim.Native.Nat.{_<_};
 ghost use Rattle.classes.specs.Held.{Held, state};
-ghost use Rattle.slots.specs.Slots.{ShapesFit, SortsFit};
+ghost use Rattle.arrays.specs.Slots.{ShapesFit, SortsFit};
 ghost use Rattle.kinds.specs.Found.{constantOf, isFixed, isShape, isSingle, shapeOf, singleOf};
 
 // ---- shapes
@@ -44,7 +44,7 @@ fn is_fixed(classes: &[u8; 96], constants: &[u8; 32], c: u8, k: usize) -> bool
     if constants[k] == 0 {
         return false;
     }
-    classes::class_of(classes, given::constant_term(k)) == c
+    classes::class_of(classes, constants::constant_term(k)) == c
 }
 
 // The lowest slot with a constant of class `c`; 30 if there is none.

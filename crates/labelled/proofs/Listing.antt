@@ -10,7 +10,7 @@ use lib.ListN.{List·getD-eq-default, getD, getD-replicate, length, length-repli
 use lib.Seq.{getD-set-other, getD-set-same}
 use borrow.Author.Tests.{eq-eqb, eqb-false, eqb-true, ltb-false, ltb-true, ne-eqb}
 use Rattle.laws.proofs.Bools.{by-test, or-left}
-use Rattle.slots.specs.Slots.{sortAt}
+use Rattle.arrays.specs.Slots.{sortAt}
 use Rattle.labelled.specs.Covers.{Lists, hasLabel, hasMask}
 
 zeros : (n i : ℕ) → getD {A = ℕ} (replicate n 0) i 0 ≡ 0

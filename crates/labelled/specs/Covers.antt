@@ -5,7 +5,7 @@ use mathlib.Core.List.{List}
 use Prim.Native.Nat.{ℕ, _≤_, _<_}
 use lib.Dec.{eqb}
 use lib.ListN.{getD}
-use Rattle.slots.specs.Slots.{sortAt}
+use Rattle.arrays.specs.Slots.{sortAt}
 
 -- the mask of a term's type holds a variant
 unfoldable pub hasMask : List ℕ → List ℕ → ℕ → Bool

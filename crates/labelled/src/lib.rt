@@ -1,7 +1,7 @@
 // The terms that have a label, in rising order: loops over labels leave all others out.
 ghost use mathlib.Core.Path.{_≡_};
 ghost use Prim.Native.Nat.{_<_};
-ghost use Rattle.slots.specs.Slots.{SortsFit};
+ghost use Rattle.arrays.specs.Slots.{SortsFit};
 ghost use Rattle.labelled.specs.Covers.{Lists, hasLabel};
 
 // A list of terms, in the first places, and how many there are.

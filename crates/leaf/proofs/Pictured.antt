@@ -31,9 +31,9 @@ use Rattle.models.proofs.Nodes.{NodeOf, OpenNode, TypedNode, built-of, built-te
 use Rattle.models.proofs.TypedTable.{termType}
 use Rattle.tables.specs.Layout.{flat, rowTable}
 use Rattle.tables.proofs.Lookups.{map-at}
-use Rattle.problem.specs.Problem.{constantsOf, fieldlessOf, kindNumber, shapesOf, sortsOf}
-use Rattle.slots.specs.Slots.{manyAt, partAt}
-use Rattle.given.specs.Facts.{constantValue}
+use Rattle.arrays.specs.Arrays.{constantsOf, fieldlessOf, kindNumber, shapesOf, sortsOf}
+use Rattle.arrays.specs.Slots.{manyAt, partAt}
+use Rattle.constants.specs.Constants.{constantValue}
 use Rattle.splits.specs.Choice.{lowestIn}
 use Rattle.rowstore.proofs.RowLaws.{belongs-type}
 use Rattle.kinds.specs.Found.{constantOf, isShape, singleOf}

@@ -13,9 +13,9 @@ use Rattle.laws.proofs.Bools.{by-test}
 use Rattle.laws.proofs.Stores.{set-other}
 use Rattle.guard.specs.Message.{Message}
 use Rattle.rowstore.specs.Store.{messageAt}
-use Rattle.growthrows.specs.Drawing.{Drew, Under, unset}
-use Rattle.growthrows.proofs.DefaultRowLaws.{unset-set}
-use Rattle.growthrows.proofs.DrawnLaws.{drew-kept, drew-under}
+use Rattle.drawnrows.specs.Drawing.{Drew, Under, unset}
+use Rattle.defaultrows.proofs.DefaultRowLaws.{unset-set}
+use Rattle.drawnrows.proofs.DrawnLaws.{drew-kept, drew-under}
 use Rattle.plans.specs.Plans.{OpenState}
 use Rattle.leaf.specs.Picture.{Wanted}
 use Rattle.leaf.specs.Sheet.{Placed, Sheet}

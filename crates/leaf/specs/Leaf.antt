@@ -3,7 +3,7 @@ use Prim.Native.Nat.{ℕ, _≤_, _<_}
 use lib.ListN.{getD}
 use Rattle.guard.specs.Types.{Types}
 use Rattle.classes.specs.Held.{Held}
-use Rattle.slots.specs.Slots.{ShapesFit, SortsFit, kindAt}
+use Rattle.arrays.specs.Slots.{ShapesFit, SortsFit, kindAt}
 use Rattle.plans.specs.Plans.{OpenState}
 use Rattle.leaf.specs.declared.Leaf.{Leaf}
 

@@ -12,9 +12,9 @@ use Rattle.guard.specs.Message.{Message, Message.made, Message.number, Parts.ni
 use Rattle.guard.specs.Shown.{messageType}
 use Rattle.guard.specs.Types.{fieldsOf, isNumber, variantsOf}
 use Rattle.growth.proofs.Plans.{plannedMessage}
-use Rattle.problem.specs.Problem.{kindNumber}
-use Rattle.slots.specs.Slots.{kindAt, manyAt, partAt, sortAt}
-use Rattle.given.specs.Facts.{constantValue}
+use Rattle.arrays.specs.Arrays.{kindNumber}
+use Rattle.arrays.specs.Slots.{kindAt, manyAt, partAt, sortAt}
+use Rattle.constants.specs.Constants.{constantValue}
 use Rattle.splits.specs.Choice.{lowestIn}
 use Rattle.kinds.specs.Found.{constantOf, isShape, singleOf}
 use Rattle.plans.specs.Plans.{OpenState, isFree, marked, planFor, stateOf, typeFor}

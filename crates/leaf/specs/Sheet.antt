@@ -6,7 +6,7 @@ use lib.IntN.{ℤ}
 use lib.ListN.{length, getD}
 use Rattle.guard.specs.Message.{Message}
 use Rattle.rowstore.specs.Store.{messageAt}
-use Rattle.growthrows.specs.Drawing.{Store, Under, unset}
+use Rattle.drawnrows.specs.Drawing.{Store, Under, unset}
 use Rattle.plans.specs.Plans.{OpenState}
 use Rattle.leaf.specs.Picture.{Wanted}
 

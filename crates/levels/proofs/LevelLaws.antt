@@ -18,7 +18,7 @@ use Rattle.laws.proofs.Stores.{set-cases, set-ind, sum-set-le, sum-set-lt}
 use Rattle.guard.specs.Closure.{State}
 use Rattle.classes.specs.Held.{Held}
 use Rattle.loops.proofs.Loops.{any-snoc, or-none}
-use Rattle.slots.specs.Slots.{active, manyAt, ownerAt, partAt}
+use Rattle.arrays.specs.Slots.{active, manyAt, ownerAt, partAt}
 use Rattle.ranks.specs.Ranks.{ownClass, partClass, rankingOf}
 use Rattle.ranks.proofs.RankLaws.{heights-rank, ranks-fall, ranks-low}
 use Rattle.levels.specs.Levels.{InOrder, LastInOrder, LowestPart, Sinks, Sinks.done, Sinks.then, Sunk, bottomed, ownLevel, partLevel, topLevels}

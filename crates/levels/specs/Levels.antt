@@ -9,7 +9,7 @@ use lib.Dec.{eqb}
 use lib.ListN.{getD, replicate, set}
 use Rattle.laws.specs.Lists.{any, from, sum}
 use Rattle.guard.specs.Closure.{State}
-use Rattle.slots.specs.Slots.{active, manyAt}
+use Rattle.arrays.specs.Slots.{active, manyAt}
 use Rattle.ranks.specs.Ranks.{ownClass, partClass}
 
 unfoldable pub topLevels : List ℕ

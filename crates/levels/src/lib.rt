@@ -3,7 +3,7 @@ ghost use mathlib.Core.Path.{_≡_};
 ghost use mathlib.Core.Bool.{not};
 ghost use Prim.Native.Nat.{_<_};
 ghost use Rattle.classes.specs.Held.{Held, state};
-ghost use Rattle.slots.specs.Slots.{ShapesFit, manyAt};
+ghost use Rattle.arrays.specs.Slots.{ShapesFit, manyAt};
 ghost use Rattle.ranks.specs.Ranks.{ownClass, rankingOf};
 ghost use Rattle.levels.specs.Levels.{InOrder, LastInOrder, LowestPart, Sunk, bottomed};
 use ranks::rank_at;

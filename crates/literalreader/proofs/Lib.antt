@@ -1,4 +1,3 @@
-pub mod PairLaws
 pub mod LiteralLaws
 pub mod LiteralReaderLaws
 pub mod TidyLiterals

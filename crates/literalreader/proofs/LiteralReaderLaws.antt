@@ -10,7 +10,8 @@ use Rattle.guard.specs.Guard.{Literal, Row, typeAt}
 use Rattle.guard.specs.File.{count, kind, literal, literalOf, name, termAndVariant, twoTerms}
 use Rattle.guard.specs.Grammar.{ended}
 use Rattle.guard.specs.Number.{Parsed, Parsed.accepted, Parsed.refused, Parser, _>>=_, _>>_, andThen, ask, return, times}
-use Rattle.literalreader.specs.LiteralReader.{Two, asLiterals, literalBy, literalsAt, literalsBy, made, numbersBy, testBy, twoBy}
+use Rattle.literalkinds.specs.OneLiteral.{Two, literalBy, made, numbersBy, testBy, twoBy}
+use Rattle.literalreader.specs.LiteralReader.{asLiterals, literalsAt, literalsBy}
 
 -- ---- parsers that agree, repeated
 

@@ -20,9 +20,9 @@ use Rattle.reader.specs.Reader.{guardTables}
 use Rattle.growthtables.specs.declared.Growth.{Growth}
 use Rattle.growthtables.specs.Growth.{growthBy}
 use Rattle.growthtables.proofs.FitLaws.{accepted-range}
-use Rattle.growthrows.specs.declared.Forms.{Forms}
-use Rattle.growthrows.specs.Forms.{FormsFit, typesIn}
-use Rattle.growthrows.proofs.FormLaws.{formsOf, guard-forms, guard-types}
+use Rattle.forms.specs.declared.Forms.{Forms}
+use Rattle.forms.specs.Forms.{FormsFit, typesIn}
+use Rattle.forms.proofs.FormLaws.{formsOf, guard-forms, guard-types}
 use Rattle.classes.specs.Held.{Held, state}
 use Rattle.search.specs.Nodes.{Accepted, OpenLeaf}
 use Rattle.plans.specs.Plans.{OpenState, isFree, openOf}

@@ -22,13 +22,13 @@ use Rattle.guard.proofs.ClosureState.{Small}
 use Rattle.guard.proofs.TableLaws.{few-rows}
 use Rattle.models.proofs.Drawing.{drawn-holds, drawn-values, shownBy}
 use Rattle.classes.specs.Held.{Held}
-use Rattle.problem.specs.Problem.{shapesOf}
-use Rattle.slots.specs.Slots.{active, manyAt, ownerAt, partAt}
+use Rattle.arrays.specs.Arrays.{shapesOf}
+use Rattle.arrays.specs.Slots.{active, manyAt, ownerAt, partAt}
 use Rattle.search.specs.Nodes.{Accepted, OpenLeaf}
 use Rattle.rowstore.specs.Store.{messageAt}
 use Rattle.kinds.specs.Found.{isShape}
 use Rattle.needed.specs.Needed.{Needed, Needed.of-part, Needed.of-row, ownClass}
-use Rattle.growthrows.specs.Drawing.{Under, Under.here, Under.part}
+use Rattle.drawnrows.specs.Drawing.{Under, Under.here, Under.part}
 use Rattle.plans.specs.Plans.{OpenState, highestRank, openOf, planFor}
 use Rattle.leaf.specs.declared.Leaf.{Leaf}
 use Rattle.leaf.specs.Leaf.{openState}

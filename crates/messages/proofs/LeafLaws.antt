@@ -10,11 +10,12 @@ use Rattle.tables.specs.Layout.{rowTable}
 use Rattle.reader.specs.declared.Tables.{Tables}
 use Rattle.reader.specs.Reader.{guardTables}
 use Rattle.problem.specs.declared.Problem.{Problem}
-use Rattle.problem.specs.Problem.{problemOf, shapesOf}
+use Rattle.arrays.specs.Arrays.{shapesOf}
+use Rattle.problem.specs.Problem.{problemOf}
 use Rattle.problem.specs.Columns.{problemBy}
 use Rattle.problem.proofs.ProblemLaws.{problem-is}
-use Rattle.slots.specs.Slots.{ShapesFit}
-use Rattle.slots.proofs.GuardSlots.{shapes-fit}
+use Rattle.arrays.specs.Slots.{ShapesFit}
+use Rattle.arrays.proofs.GuardSlots.{shapes-fit}
 use Rattle.ranks.specs.Ranks.{rankingOf}
 use Rattle.search.specs.Nodes.{Accepted}
 use Rattle.needed.specs.Needed.{Marks}

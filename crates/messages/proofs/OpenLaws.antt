@@ -22,10 +22,10 @@ use Rattle.models.proofs.Nodes.{NodeOf, OpenNode, is-node, isnt-node, open-node
 use Rattle.models.proofs.TypedTable.{table-typed}
 use Rattle.tables.specs.Layout.{rowTable}
 use Rattle.classes.specs.Held.{Held}
-use Rattle.problem.specs.Problem.{constantsOf, fieldlessOf, kindNumber, shapesOf, sortsOf}
-use Rattle.slots.specs.Slots.{ShapesFit, SortsFit, active, kindAt, manyAt, partAt}
-use Rattle.slots.proofs.GuardSlots.{shape-slots, shapes-fit, sorts-fit}
-use Rattle.slots.proofs.TableSlots.{Shaped, Shaped.of-build, Shaped.of-read}
+use Rattle.arrays.specs.Arrays.{constantsOf, fieldlessOf, kindNumber, shapesOf, sortsOf}
+use Rattle.arrays.specs.Slots.{ShapesFit, SortsFit, active, kindAt, manyAt, partAt}
+use Rattle.arrays.proofs.GuardSlots.{shape-slots, shapes-fit, sorts-fit}
+use Rattle.arrays.proofs.TableSlots.{Shaped, Shaped.of-build, Shaped.of-read}
 use Rattle.ranks.specs.Ranks.{rankingOf}
 use Rattle.ranks.proofs.RankLaws.{ranks-fall, ranks-small}
 use Rattle.search.specs.Nodes.{Accepted, NodeLiterals, NodeLiterals.atIs, NodeLiterals.atIsnt, NodeLiterals.atRoot, OpenLeaf}

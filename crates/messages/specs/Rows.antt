@@ -11,7 +11,7 @@ use Rattle.guard.specs.Types.{Types}
 use Rattle.tables.specs.Layout.{rowTable}
 use Rattle.reader.specs.Reader.{guardTables}
 use Rattle.reader.specs.declared.Tables.{Tables}
-use Rattle.problem.specs.Problem.{constantsOf, fieldlessOf, shapesOf, sortsOf}
+use Rattle.arrays.specs.Arrays.{constantsOf, fieldlessOf, shapesOf, sortsOf}
 use Rattle.ranks.specs.Ranks.{rankingOf}
 use Rattle.search.specs.Nodes.{Accepted}
 use Rattle.rowstore.specs.Store.{Grown}

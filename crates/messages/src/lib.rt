@@ -1,6 +1,6 @@
 // Messages for the terms of an open node: rows in the one buffer, the row of each term in the other. `specs/` says what
 // is drawn, and what it shows.
-use growthrows::Forms;
+use forms::Forms;
 use growthtables::growth_of;
 use leaf::Leaf;
 use problem::Problem;
@@ -10,11 +10,11 @@ ghost use Prim.Native.Nat.{_≤_, _<_};
 ghost use lib.ListN.{length};
 ghost use Rattle.problem.specs.Columns.{problemBy};
 ghost use Rattle.classes.specs.Held.{Held, state};
-ghost use Rattle.search.specs.Nodes.{GuardsTables};
-ghost use Rattle.growthrows.specs.Forms.{FormsFit, typesIn};
+ghost use Rattle.roots.specs.Roots.{GuardsTables};
+ghost use Rattle.forms.specs.Forms.{FormsFit, typesIn};
 ghost use Rattle.leaf.specs.Leaf.{LeafFits, openState};
 ghost use Rattle.freerows.specs.Free.{Blank, FreeFits};
-ghost use Rattle.fixedrows.specs.Stage.{AtLow};
+ghost use Rattle.classrow.specs.ClassRow.{AtLow};
 ghost use Rattle.messages.specs.Messages.{DrawsFor, OpenTables};
 ghost use Rattle.messages.specs.Rows.{Drawable, LeafFor, PlacesSet, RowsDrawn};
 
@@ -77,7 +77,7 @@ fn set_places(classes: &[u8; 96], at: &[u16; 96], many: usize, places: &mut [i32
 {
     let mut i: usize = 0;
     while i < many {
-        places[i] = fixedrows::row_at(at, classes[i]) as i32;
+        places[i] = classrow::row_at(at, classes[i]) as i32;
         i += 1;
     }
 }

@@ -15,7 +15,7 @@ use Rattle.laws.specs.Lists.{sum}
 use Rattle.laws.proofs.Bools.{by-test, either, or-cases, or-false, or-left}
 use Rattle.laws.proofs.Stores.{set-cases, set-ind, set-same, sum-set-le, sum-set-lt}
 use Rattle.guard.specs.Closure.{State, classOf}
-use Rattle.slots.specs.Slots.{active, manyAt, ownerAt}
+use Rattle.arrays.specs.Slots.{active, manyAt, ownerAt}
 use Rattle.needed.specs.Needed.{AllFollowed, Followed, Leads, Marked, Marks, Needed, Needed.of-part, Needed.of-row, PartMarked, Pass, Steps, Steps.done, Steps.then, UpTo, noClass, noMarks, ownClass, partClass, rowMarks}
 
 -- ---- one mark

@@ -23,10 +23,10 @@ use Rattle.guard.proofs.ClosureState.{Small}
 use Rattle.guard.proofs.TableLaws.{few-rows, table-in-range}
 use Rattle.models.proofs.Nodes.{build-of}
 use Rattle.tables.specs.Layout.{flat}
-use Rattle.problem.specs.Problem.{shapesOf}
-use Rattle.slots.proofs.GuardSlots.{shape-slots}
-use Rattle.slots.proofs.ActiveSlots.{ActiveSlot, build-active}
-use Rattle.slots.proofs.TableSlots.{ShapeSlots}
+use Rattle.arrays.specs.Arrays.{shapesOf}
+use Rattle.arrays.proofs.GuardSlots.{shape-slots}
+use Rattle.arrays.proofs.ActiveSlots.{ActiveSlot, build-active}
+use Rattle.arrays.proofs.TableSlots.{ShapeSlots}
 use Rattle.needed.specs.Needed.{Needed, Needed.of-part, Needed.of-row, ownClass}
 
 module _ (limits : Limits) (sup : Supported limits) (g : Guard) (ok : WellFormed limits g) (total : length (flat (g .types)) ≤ totalVariantLimit) (ls : List Literal) (literalsIn : LiteralsInRange ls)

@@ -8,7 +8,7 @@ use Prim.Native.Nat.{ℕ, zero, suc, _<_}
 use lib.ListN.{getD, length, replicate, set}
 use Rattle.laws.specs.Lists.{sum}
 use Rattle.guard.specs.Closure.{State, classOf}
-use Rattle.slots.specs.Slots.{active, manyAt, ownerAt, partAt}
+use Rattle.arrays.specs.Slots.{active, manyAt, ownerAt, partAt}
 
 -- the class of a shape's term, and of its part p
 abbrev pub ownClass : List ℕ → State → ℕ → ℕ

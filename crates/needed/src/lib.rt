@@ -5,7 +5,7 @@ ghost use Prim.Native.Nat.{_<_, _≤_};
 ghost use lib.Dec.{eqb};
 ghost use lib.ListN.{getD, set};
 ghost use Rattle.classes.specs.Held.{Held, state};
-ghost use Rattle.slots.specs.Slots.{ShapesFit, active, manyAt};
+ghost use Rattle.arrays.specs.Slots.{ShapesFit, active, manyAt};
 ghost use Rattle.needed.specs.Needed.{AllFollowed, Followed, Leads, Marks, PartMarked, Pass, UpTo, noMarks, ownClass, rowMarks};
 
 fn wide(x: u8) -> usize

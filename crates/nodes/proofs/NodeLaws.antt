@@ -20,7 +20,7 @@ use Rattle.tables.specs.Layout.{flat, literalOther, literalTable, literalTerm, 
 use Rattle.tables.proofs.Columns.{pad-get}
 use Rattle.classes.specs.Held.{Held}
 use Rattle.loops.specs.Lowest.{lowest}
-use Rattle.problem.specs.Problem.{constantsOf, fullOf, shapesOf, sortsOf}
+use Rattle.arrays.specs.Arrays.{constantsOf, fullOf, shapesOf, sortsOf}
 use Rattle.reasons.specs.Reasons.{LinesFit, brokenAt}
 use Rattle.reasons.proofs.ReasonLaws.{broken-same, empty-same, unlike-same}
 use Rattle.ranks.proofs.CycleLaws.{inside-same}

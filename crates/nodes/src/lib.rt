@@ -2,7 +2,7 @@
 ghost use mathlib.Core.Path.{_≡_};
 ghost use Prim.Native.Nat.{_≤_};
 ghost use Rattle.classes.specs.Held.{Held, state};
-ghost use Rattle.slots.specs.Slots.{ShapesFit, SortsFit};
+ghost use Rattle.arrays.specs.Slots.{ShapesFit, SortsFit};
 ghost use Rattle.labelled.specs.Covers.{Covers, hasMask};
 ghost use Rattle.reasons.specs.Reasons.{LinesFit};
 ghost use Rattle.nodes.specs.Closed.{closedBy};

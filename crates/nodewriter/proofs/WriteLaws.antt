@@ -18,7 +18,7 @@ use Rattle.guard.proofs.NodeLaws.{split-is}
 use Rattle.guard.proofs.TableLaws.{table-in-range}
 use Rattle.models.proofs.Nodes.{NodeOf, is-node, isnt-node, root-node}
 use Rattle.passes.specs.Pass.{Saturated}
-use Rattle.problem.specs.Problem.{fieldlessOf, readsOf, shapesOf, sortsOf}
+use Rattle.arrays.specs.Arrays.{fieldlessOf, readsOf, shapesOf, sortsOf}
 use Rattle.saturation.specs.Due.{allDue}
 use Rattle.splits.specs.declared.Choice.{Choice}
 use Rattle.splits.specs.Choice.{choiceOf, splitBy}

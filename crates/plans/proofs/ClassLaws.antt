@@ -31,10 +31,10 @@ use Rattle.models.proofs.Nodes.{NodeOf, OpenNode, TypedNode, class-small, typed
 use Rattle.models.proofs.TypedTable.{termType}
 use Rattle.tables.specs.Layout.{flat}
 use Rattle.loops.specs.Lowest.{lowest}
-use Rattle.problem.specs.Problem.{constantsOf, fieldlessOf, shapesOf, sortsOf}
-use Rattle.slots.specs.Slots.{sortAt}
-use Rattle.slots.proofs.GuardSlots.{shape-slots, sort-slots}
-use Rattle.slots.proofs.ActiveSlots.{active-build}
+use Rattle.arrays.specs.Arrays.{constantsOf, fieldlessOf, shapesOf, sortsOf}
+use Rattle.arrays.specs.Slots.{sortAt}
+use Rattle.arrays.proofs.GuardSlots.{shape-slots, sort-slots}
+use Rattle.arrays.proofs.ActiveSlots.{active-build}
 use Rattle.kinds.specs.Found.{constantOf, shapeOf, singleOf}
 use Rattle.kinds.proofs.KindLaws.{found-constant, found-shape, found-single, none-is-free}
 use Rattle.needed.specs.Needed.{Marks, Needed, Needed.of-part, Needed.of-row}

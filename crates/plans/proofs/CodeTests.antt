@@ -22,8 +22,8 @@ use Rattle.tables.proofs.Held.{held-arity, held-variants, placeOf}
 use Rattle.loops.specs.Lowest.{lowest}
 use Rattle.loops.proofs.Loops.{NoneBelow, lowest-here, lowest-nowhere}
 use Rattle.loops.proofs.Tests.{and-no, no-and, yes-and}
-use Rattle.given.specs.Facts.{constantValue}
-use Rattle.given.proofs.GivenTests.{same-bits}
+use Rattle.constants.specs.Constants.{constantValue}
+use Rattle.constants.proofs.ConstantTests.{same-bits}
 use Rattle.kinds.specs.Found.{constantOf, shapeOf, singleOf}
 use Rattle.plans.specs.Chosen.{freeAt, heldAt, heldIn, higherAt, highestBelow, highestOf, isMarked, sortIn, termIn, variantEntry, variantIn}
 use Rattle.plans.specs.Fresh.{nextFresh, taken, takenAt}

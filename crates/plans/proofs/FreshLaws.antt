@@ -19,7 +19,7 @@ use Rattle.guard.specs.Closure.{eqZ}
 use Rattle.guard.proofs.ClosureBelow.{eqZ-true}
 use Rattle.guard.proofs.LeastClosure.{eqZ-of}
 use Rattle.loops.specs.Lowest.{lowest}
-use Rattle.given.specs.Facts.{constantValue, isConstant}
+use Rattle.constants.specs.Constants.{constantValue, isConstant}
 use Rattle.plans.specs.Fresh.{freshAfter, nextFresh, taken, takenAt}
 
 -- a value is z or above

@@ -17,7 +17,7 @@ use Rattle.guard.specs.Types.{isNumber}
 use Rattle.growth.proofs.ClosedPlans.{closedPlan, closedSteps, lap, startOf}
 use Rattle.growth.proofs.Growth.{distanceOf, stepsToNumber}
 use Rattle.growth.proofs.Plans.{Plan, Plan.around, Plan.atOnce, Plan.into}
-use Rattle.problem.specs.Problem.{shapesOf}
+use Rattle.arrays.specs.Arrays.{shapesOf}
 use Rattle.ranks.proofs.RankLaws.{ranks-small}
 use Rattle.plans.specs.Chosen.{higherAt, highestBelow, highestOf, isMarked}
 use Rattle.plans.specs.Fresh.{freshAfter}

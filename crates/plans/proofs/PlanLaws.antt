@@ -40,10 +40,10 @@ use Rattle.models.proofs.Nodes.{NodeOf, OpenNode, TypedNode, build-of, class-sm
 use Rattle.models.proofs.TypedTable.{termType}
 use Rattle.tables.specs.Layout.{flat}
 use Rattle.classes.specs.Held.{Held}
-use Rattle.problem.specs.Problem.{constantsOf, shapesOf}
-use Rattle.slots.proofs.GuardSlots.{shape-slots}
-use Rattle.slots.proofs.ActiveSlots.{build-active}
-use Rattle.given.proofs.ConstantSlots.{constant-slots}
+use Rattle.arrays.specs.Arrays.{constantsOf, shapesOf}
+use Rattle.arrays.proofs.GuardSlots.{shape-slots}
+use Rattle.arrays.proofs.ActiveSlots.{build-active}
+use Rattle.constants.proofs.ConstantSlots.{constant-slots}
 use Rattle.ranks.specs.Ranks.{ownClass, partClass, rankingOf}
 use Rattle.ranks.proofs.CycleLaws.{inside-same}
 use Rattle.ranks.proofs.RankLaws.{ranks-fall}

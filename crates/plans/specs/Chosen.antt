@@ -9,7 +9,7 @@ use Rattle.laws.specs.Bits.{bit}
 use Rattle.guard.specs.Closure.{State}
 use Rattle.guard.specs.Types.{Types, fieldsOf, variantsOf}
 use Rattle.loops.specs.Lowest.{lowest}
-use Rattle.slots.specs.Slots.{sortAt}
+use Rattle.arrays.specs.Slots.{sortAt}
 use Rattle.kinds.specs.Found.{constantOf, shapeOf, singleOf}
 
 -- ---- types

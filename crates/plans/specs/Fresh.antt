@@ -6,7 +6,7 @@ use lib.IntN.{ℤ, pos}
 use Rattle.laws.specs.Lists.{any, from}
 use Rattle.guard.specs.Closure.{eqZ}
 use Rattle.loops.specs.Lowest.{lowest}
-use Rattle.given.specs.Facts.{constantValue, isConstant}
+use Rattle.constants.specs.Constants.{constantValue, isConstant}
 
 module _ (constants : List ℕ) (values : List ℤ) where
   -- slot k has a constant of value z

@@ -15,7 +15,7 @@ use Rattle.growth.proofs.ClosedPlans.{circles, closedPlan, rootFor}
 use Rattle.growth.proofs.Plans.{Plan}
 use Rattle.tables.specs.Layout.{rowTable}
 use Rattle.classes.specs.Held.{state}
-use Rattle.problem.specs.Problem.{constantsOf, fieldlessOf, shapesOf, sortsOf}
+use Rattle.arrays.specs.Arrays.{constantsOf, fieldlessOf, shapesOf, sortsOf}
 use Rattle.ranks.specs.Ranks.{rankingOf}
 use Rattle.plans.specs.Chosen.{freeAt, highestOf, isMarked, sortIn, variantIn}
 use Rattle.plans.specs.Fresh.{freshAfter}

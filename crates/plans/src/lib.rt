@@ -4,7 +4,7 @@ ghost use Prim.Native.Nat.{_<_, _≤_, _+_};
 ghost use lib.ListN.{getD};
 ghost use Rattle.tables.specs.Layout.{TypesInRange, typesOf};
 ghost use Rattle.classes.specs.Held.{Held, state};
-ghost use Rattle.slots.specs.Slots.{ShapesFit, SortsFit};
+ghost use Rattle.arrays.specs.Slots.{ShapesFit, SortsFit};
 ghost use Rattle.plans.specs.Chosen.{freeAt, heldAt, higherAt, highestOf, isMember, sortIn, termIn, variantEntry, variantIn};
 ghost use Rattle.plans.specs.Fresh.{nextFresh, taken, takenAt};
 use tables::TypeTable;
@@ -127,7 +127,7 @@ fn is_taken_at(constants: &[u8; 32], values: &[i32; 24], z: u32, k: usize) -> bo
     if constants[k] == 0 {
         return false;
     }
-    given::constant_value(values, k) == z as i32
+    constants::constant_value(values, k) == z as i32
 }
 
 fn is_taken(constants: &[u8; 32], values: &[i32; 24], z: u32) -> bool

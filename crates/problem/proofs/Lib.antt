@@ -1,5 +1,3 @@
-pub mod Blocks
-pub mod SlotLaws
 pub mod ShapeColumn
 pub mod OtherColumns
 pub mod ProblemLaws

@@ -21,14 +21,14 @@ use Rattle.tables.specs.Layout.{flat, rowKind, rowTable, typeTable}
 use Rattle.tables.proofs.Columns.{pad-get}
 use Rattle.tables.proofs.Lookups.{arity-at, row-type-anywhere, variants-at}
 use Rattle.siblings.specs.Siblings.{siblingsIn}
-use Rattle.problem.specs.Problem.{constantsOf, defaultConstant, fieldlessOf, fullOf, maskOf, readsOf, rowConstant, rowRead, sortsOf}
+use Rattle.arrays.specs.Arrays.{constantsOf, defaultConstant, fieldlessOf, fullOf, maskOf, readsOf, rowConstant, rowRead, sortsOf}
 use Rattle.readcolumn.specs.Reads.{fieldKey}
 use Rattle.columns.specs.Entries.{bitOf, onesOf, plusOne, plusOneIf}
 use Rattle.readcolumn.specs.Reads.{constantEntry, readEntry, readPlace}
 use Rattle.sortcolumn.specs.Sorts.{fieldlessBit, fieldlessEntry, fieldlessMask, fullEntry, sortEntry}
 use Rattle.columns.proofs.EntryLaws.{bit-is, one-more, ones-all, ones-are}
 use Rattle.problem.proofs.ShapeColumn.{first-of, kind-is, kind-past, part-is, row-fits, term-is, type-is, variant-is}
-use Rattle.problem.proofs.SlotLaws as slots
+use Rattle.arrays.proofs.SlotLaws as slots
 
 -- ---- choices
 

@@ -20,7 +20,7 @@ use Rattle.columns.specs.Entries.{filled}
 use Rattle.problem.specs.Columns.{problemBy}
 use Rattle.problem.proofs.OtherColumns.{constant-is, fieldless-is, full-is, read-is, sort-is}
 use Rattle.problem.proofs.ShapeColumn.{shape-is}
-use Rattle.problem.proofs.SlotLaws.{constants-length, fieldless-length, full-length, reads-length, shapes-length, sorts-length}
+use Rattle.arrays.proofs.SlotLaws.{constants-length, fieldless-length, full-length, reads-length, shapes-length, sorts-length}
 
 -- a problem is its columns
 pub all-columns : (q : Problem) (shapes reads sorts full fieldless constants : List ℕ)

@@ -25,12 +25,12 @@ use Rattle.tables.proofs.Columns.{pad-get, pad-past}
 use Rattle.tables.proofs.Lookups.{arity-at, first-at, flat-all, map-at, offsetOf, row-kind-at, row-part-at, row-type-anywhere, row-variant-at, sort-at, variants-at}
 use Rattle.siblings.specs.Siblings.{siblingsIn}
 use Rattle.siblings.proofs.ReadLaws.{read-fields-at}
-use Rattle.problem.specs.Problem.{defaultShape, rowShape, shape, shapesOf}
+use Rattle.arrays.specs.Arrays.{defaultShape, rowShape, shape, shapesOf}
 use Rattle.rowshapes.specs.RowShapes.{kindNumber}
 use Rattle.rowshapes.specs.RowShapes.{arityOf, othersOf, ownerOf, partPlace, rowPart, rowPlace, shapePlace}
 use Rattle.shapecolumn.specs.Shapes.{defaultPart, defaultPlace, shapeEntry}
 use Rattle.columns.proofs.EntryLaws.{bit-is}
-use Rattle.problem.proofs.SlotLaws.{default-shape-at, field-length, no-default-shape, no-row-shape, row-shape-at}
+use Rattle.arrays.proofs.SlotLaws.{default-shape-at, field-length, no-default-shape, no-row-shape, row-shape-at}
 
 -- ---- a shape by its places
 

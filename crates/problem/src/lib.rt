@@ -1,5 +1,5 @@
-// A guard as the closure and the search need it. `specs/Problem.antt` says what each entry is, `specs/Columns.antt` how
-// it comes from the tables.
+// The arrays that the search reads, from the tables of a guard. `specs/Arrays.antt` of `arrays` says what each entry is,
+// `specs/Columns.antt` how it comes from the tables.
 use reader::Tables;
 ghost use mathlib.Core.Path.{_≡_};
 ghost use Rattle.problem.specs.Columns.{problemBy};

@@ -26,12 +26,12 @@ use Rattle.models.proofs.Ranks.{few-builds, from-class, rank-part, rankOf}
 use Rattle.tables.specs.Layout.{flat}
 use Rattle.classes.specs.Held.{Held}
 use Rattle.loops.proofs.Loops.{both}
-use Rattle.problem.specs.Problem.{shapesOf}
-use Rattle.slots.specs.Slots.{manyAt}
-use Rattle.slots.proofs.DueLaws.{when-is}
-use Rattle.slots.proofs.GuardSlots.{shape-slots}
-use Rattle.slots.proofs.ActiveSlots.{ActiveSlot, BuildSlot, active-build, build-active}
-use Rattle.slots.proofs.TableSlots.{ShapeSlots}
+use Rattle.arrays.specs.Arrays.{shapesOf}
+use Rattle.arrays.specs.Slots.{manyAt}
+use Rattle.arrays.proofs.DueLaws.{when-is}
+use Rattle.arrays.proofs.GuardSlots.{shape-slots}
+use Rattle.arrays.proofs.ActiveSlots.{ActiveSlot, BuildSlot, active-build, build-active}
+use Rattle.arrays.proofs.TableSlots.{ShapeSlots}
 use Rattle.ranks.specs.Ranks.{ownClass, partClass, rankingOf}
 use Rattle.ranks.proofs.RankLaws.{heights-rank, ranks-fall}
 

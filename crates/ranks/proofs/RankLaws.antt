@@ -17,7 +17,7 @@ use Rattle.laws.proofs.Lists.{any-none, any-some, from-bounds, mem-from}
 use Rattle.laws.proofs.Stores.{set-ind}
 use Rattle.guard.specs.Closure.{State}
 use Rattle.classes.specs.Held.{Held}
-use Rattle.slots.specs.Slots.{active, manyAt, ownerAt}
+use Rattle.arrays.specs.Slots.{active, manyAt, ownerAt}
 use Rattle.ranks.specs.Ranks.{isAbove, low, noRanks, ownClass, partAbove, partClass, raised, raisedTo, raisesTo, rankFrom, rankingOf}
 
 zeros : (n c : ℕ) → _≡_ {A = ℕ} (getD (replicate n 0) c 0) 0

@@ -10,7 +10,7 @@ use lib.ListN.{set}
 use Rattle.guard.specs.Closure.{State}
 use Rattle.loops.proofs.Loops.{or-none}
 use Rattle.loops.proofs.Tests.{and-no, no-and}
-use Rattle.slots.specs.Slots.{active}
+use Rattle.arrays.specs.Slots.{active}
 use Rattle.ranks.specs.Ranks.{Ranking, low, noRanks, ownClass, partAbove, raised, raisedTo, raisesTo, rankFrom, rankingOf}
 
 module _ (shapes : List ℕ) (s : State) (ranks : List ℕ) (k : ℕ) where

@@ -7,7 +7,7 @@ use native.Mathlib.Omega.{arith}
 use lib.ListN.{getD}
 use borrow.Author.Tests.{le-leb, lt-leb}
 use Rattle.loops.proofs.Loops.{NoneBelow, any-here, any-nowhere, none-yet}
-use Rattle.slots.specs.Slots.{manyAt}
+use Rattle.arrays.specs.Slots.{manyAt}
 use Rattle.ranks.specs.Ranks.{isAbove, ownClass, partAbove, partClass}
 
 module _ (shapes classes ranks : List ℕ) (k : ℕ) where

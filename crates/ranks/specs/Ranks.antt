@@ -7,7 +7,7 @@ use lib.Dec.{leb}
 use lib.ListN.{getD, set, replicate}
 use Rattle.laws.specs.Lists.{any, from}
 use Rattle.guard.specs.Closure.{State}
-use Rattle.slots.specs.Slots.{active, manyAt, ownerAt, partAt}
+use Rattle.arrays.specs.Slots.{active, manyAt, ownerAt, partAt}
 
 unfoldable pub noRanks : List ℕ
 noRanks = replicate 96 0

@@ -3,7 +3,7 @@ ghost use mathlib.Core.Path.{_≡_};
 ghost use Prim.Native.Nat.{_<_};
 ghost use lib.ListN.{getD};
 ghost use Rattle.classes.specs.Held.{Held, state};
-ghost use Rattle.slots.specs.Slots.{ShapesFit};
+ghost use Rattle.arrays.specs.Slots.{ShapesFit};
 ghost use Rattle.ranks.specs.Ranks.{low, noRanks, partAbove, raised, raisedTo, raisesTo, rankingOf};
 use slots::wide;
 

@@ -8,7 +8,7 @@ use lib.Dec.{eqb}
 use Rattle.guard.specs.Closure.{Fact.same, State, add, holds, labelOf, sameClass}
 use Rattle.passes.specs.Pass.{Pass}
 use Rattle.passes.proofs.PassLaws.{not-due, united}
-use Rattle.slots.specs.Slots.{readBit, readDefault, readKey, readTerm}
+use Rattle.arrays.specs.Slots.{readBit, readDefault, readKey, readTerm}
 use Rattle.reads.specs.Due.{defaultDue, readsMeet}
 
 module _ (reads : List ℕ) (s : State) (k : ℕ) where

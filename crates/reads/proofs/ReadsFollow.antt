@@ -14,11 +14,11 @@ use Rattle.guard.specs.Closure.{Fact, Fact.same, SameAt, State, holds, labelOf,
 use Rattle.guard.specs.Terms.{Read, Table}
 use Rattle.guard.proofs.AnyOrder.{Follows, Follows.by-absent, Follows.by-reads}
 use Rattle.guard.proofs.ClosureState.{Small}
-use Rattle.problem.specs.Problem.{fieldKey}
-use Rattle.slots.specs.Slots.{readBit, readDefault, readKey, readTerm}
-use Rattle.slots.proofs.TableSlots.{ReadSlot, ReadSlots}
-use Rattle.slots.proofs.DueLaws.{either-order, is-nonzero, mem-one, nonzero-is, one-is, one-quiet, quiet-one, slots-are, slots-at}
-use Rattle.slots.proofs.MaskLaws.{bit-gone, gone-bit}
+use Rattle.arrays.specs.Arrays.{fieldKey}
+use Rattle.arrays.specs.Slots.{readBit, readDefault, readKey, readTerm}
+use Rattle.arrays.proofs.TableSlots.{ReadSlot, ReadSlots}
+use Rattle.arrays.proofs.DueLaws.{either-order, is-nonzero, mem-one, nonzero-is, one-is, one-quiet, quiet-one, slots-are, slots-at}
+use Rattle.arrays.proofs.MaskLaws.{bit-gone, gone-bit}
 use Rattle.reads.specs.Due.{defaultDue, defaultsDue, readDue, readsDue, readsMeet}
 
 module _ (t : Table) (array : List ℕ) (slots : ReadSlots t array) (s : State) where

@@ -7,7 +7,7 @@ use lib.Bits.{bitAnd}
 use lib.Dec.{eqb}
 use Rattle.laws.specs.Lists.{concatMap, from, when}
 use Rattle.guard.specs.Closure.{Fact, Fact.same, State, labelOf, sameClass}
-use Rattle.slots.specs.Slots.{readBit, readDefault, readKey, readTerm}
+use Rattle.arrays.specs.Slots.{readBit, readDefault, readKey, readTerm}
 
 module _ (reads : List ℕ) (s : State) where
   -- "if the label lacks that variant, the read equals the default"

@@ -2,7 +2,7 @@
 ghost use Prim.Native.Nat.{_<_};
 ghost use Rattle.classes.specs.Held.{Held, state};
 ghost use Rattle.passes.specs.Pass.{Pass};
-ghost use Rattle.slots.specs.Slots.{ReadsFit};
+ghost use Rattle.arrays.specs.Slots.{ReadsFit};
 ghost use Rattle.reads.specs.Due.{defaultDue, defaultsDue, readDue, readsDue, readsMeet};
 use slots::read_bit;
 use slots::read_default;

@@ -18,8 +18,8 @@ use Rattle.guard.proofs.ClosureBelow.{eqZ-true}
 use Rattle.guard.proofs.LeastClosure.{eqZ-of}
 use Rattle.loops.specs.Lowest.{lowest}
 use Rattle.loops.proofs.Loops.{any-here, any-snoc, lowest-new, lowest-nowhere, lowest-old, lowest-same, or-none}
-use Rattle.slots.proofs.DueLaws.{is-nonzero, nonzero-is}
-use Rattle.given.specs.Facts.{constantValue}
+use Rattle.arrays.proofs.DueLaws.{is-nonzero, nonzero-is}
+use Rattle.constants.specs.Constants.{constantValue}
 use Rattle.reasons.specs.Reasons.{constantClass, unlike, unlikeAt, unlikeBefore}
 
 module _ (constants : List ℕ) (values : List ℤ) (classes : List ℕ) where

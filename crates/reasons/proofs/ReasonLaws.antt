@@ -30,13 +30,13 @@ use Rattle.tables.proofs.Lookups.{map-at}
 use Rattle.classes.specs.Held.{Held}
 use Rattle.loops.specs.Lowest.{lowest}
 use Rattle.loops.proofs.Loops.{found-same}
-use Rattle.problem.specs.Problem.{constantsOf, fieldlessOf, fullOf, sortsOf}
-use Rattle.problem.proofs.SlotLaws.{full-at, full-none}
-use Rattle.slots.specs.Slots.{sortAt}
-use Rattle.slots.proofs.GuardSlots.{sort-slots}
-use Rattle.slots.proofs.TableSlots.{SortSlots}
-use Rattle.given.specs.Facts.{constantTerm, constantValue}
-use Rattle.given.proofs.ConstantSlots.{ConstantSlot, ConstantSlots, constant-slots}
+use Rattle.arrays.specs.Arrays.{constantsOf, fieldlessOf, fullOf, sortsOf}
+use Rattle.arrays.proofs.SlotLaws.{full-at, full-none}
+use Rattle.arrays.specs.Slots.{sortAt}
+use Rattle.arrays.proofs.GuardSlots.{sort-slots}
+use Rattle.arrays.proofs.TableSlots.{SortSlots}
+use Rattle.constants.specs.Constants.{constantTerm, constantValue}
+use Rattle.constants.proofs.ConstantSlots.{ConstantSlot, ConstantSlots, constant-slots}
 use Rattle.reasons.specs.Reasons.{brokenAt, constantClass, emptyAt, unlikeAt}
 use Rattle.reasons.proofs.Constants.{unlike-is, unlike-yes}
 

@@ -11,10 +11,10 @@ use Rattle.laws.specs.Lists.{any, from}
 use Rattle.laws.proofs.Bools.{and-left}
 use Rattle.guard.specs.Closure.{State, eqZ, labelOf}
 use Rattle.loops.proofs.Tests.{and-no, and-yes, no-and, yes-and}
-use Rattle.slots.specs.Slots.{sortAt}
+use Rattle.arrays.specs.Slots.{sortAt}
 use Rattle.labelled.specs.Covers.{Covers, hasMask}
 use Rattle.labelled.proofs.Covering.{covers-less}
-use Rattle.given.specs.Facts.{constantValue}
+use Rattle.constants.specs.Constants.{constantValue}
 use Rattle.reasons.specs.Reasons.{brokenAt, constantClass, emptyAt, unlike, unlikeBefore}
 
 -- ---- empty labels

@@ -8,8 +8,8 @@ use lib.IntN.{ℤ}
 use lib.ListN.{getD}
 use Rattle.laws.specs.Lists.{any, from}
 use Rattle.guard.specs.Closure.{State, eqZ, labelOf}
-use Rattle.slots.specs.Slots.{sortAt}
-use Rattle.given.specs.Facts.{constantTerm, constantValue, isConstant}
+use Rattle.arrays.specs.Slots.{sortAt}
+use Rattle.constants.specs.Constants.{constantTerm, constantValue, isConstant}
 
 -- "a label is empty": that of term x; a number type has no variants, and its label is not looked at
 unfoldable pub emptyAt : List ℕ → List ℕ → State → ℕ → Bool

@@ -3,7 +3,7 @@ ghost use mathlib.Core.Path.{_≡_};
 ghost use Prim.Native.Nat.{_<_, _≤_};
 ghost use Rattle.classes.specs.Held.{Held, state};
 ghost use Rattle.loops.specs.Lowest.{lowest};
-ghost use Rattle.slots.specs.Slots.{SortsFit};
+ghost use Rattle.arrays.specs.Slots.{SortsFit};
 ghost use Rattle.labelled.specs.Covers.{Covers, hasMask};
 ghost use Rattle.reasons.specs.Reasons.{LinesFit, brokenAt, constantClass, emptyAt, unlike, unlikeAt, unlikeBefore};
 use slots::label_at;
@@ -103,7 +103,7 @@ fn constant_class(classes: &[u8; 96], k: usize) -> usize
     requires { ⌜ k < 30 ⌝ }
     ensures { λ r. ⌜ r ≡ constantClass (now (classes .entry)) k ⌝ }
 {
-    wide(classes::class_of(classes, given::constant_term(k)))
+    wide(classes::class_of(classes, constants::constant_term(k)))
 }
 
 fn is_unlike(
@@ -122,7 +122,7 @@ fn is_unlike(
     if constant_class(classes, j) != constant_class(classes, k) {
         return false;
     }
-    given::constant_value(values, j) != given::constant_value(values, k)
+    constants::constant_value(values, j) != constants::constant_value(values, k)
 }
 
 // Whether slot k has a constant, and an unlike one before it.

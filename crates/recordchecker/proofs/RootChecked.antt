@@ -20,12 +20,13 @@ use Rattle.reader.specs.Reader.{guardTables, tablesAt}
 use Rattle.problem.specs.declared.Problem.{Problem}
 use Rattle.problem.specs.Columns.{problemBy}
 use Rattle.search.specs.Nodes.{Accepted}
-use Rattle.search.proofs.RootLaws.{arrays-of, givenIn, root-begun}
-use Rattle.search.proofs.TablesRead.{guard-accepted, guard-tables, refused-file, taken-file}
+use Rattle.roots.proofs.RootLaws.{arrays-of, givenIn, root-begun}
+use Rattle.roots.proofs.TablesRead.{guard-accepted, guard-tables, refused-file, taken-file}
 use Rattle.refutations.specs.Checker.{check, checkFrom, checked, noMore}
 use Rattle.refutations.proofs.Theorems.{file-refused, file-taken}
-use Rattle.recordchecker.specs.declared.NodeRead.{NodeRead}
-use Rattle.recordchecker.specs.Checks.{Checks, ChecksRoot, ChecksTables, answer}
+use Rattle.nodechecker.specs.declared.NodeRead.{NodeRead}
+use Rattle.nodechecker.specs.Nodes.{Checks}
+use Rattle.recordchecker.specs.Checks.{ChecksRoot, ChecksTables, answer}
 
 -- ---- the root
 

@@ -1,33 +1,23 @@
--- The whole record: the root begins with what is given, and the buffer holds the record and zeros, or zeros alone. Assumes nothing.
+-- The whole record: the buffer holds it and zeros, or zeros alone. Assumes nothing.
 use mathlib.Core.Path.{_≡_, refl, ap, ap₂, sym, _∙_}
 use mathlib.Core.Bool.{Bool, true, false, cond}
-use mathlib.Core.List.{List, [], foldl}
-use Prim.Native.Nat.{ℕ, _-_}
+use mathlib.Core.List.{List, []}
+use Prim.Native.Nat.{ℕ}
 use lib.Dec.{leb}
 use lib.ListN.{length, take, replicate}
 use lib.Seq.{take-at}
 use Rattle.laws.proofs.Bools.{by-test}
-use Rattle.guard.specs.Closure.{State, add}
 use Rattle.guard.specs.Guard.{Guard}
-use Rattle.guard.proofs.ClosureEnds.{first}
 use Rattle.reader.specs.declared.Tables.{Tables}
 use Rattle.reader.specs.Reader.{guardTables}
-use Rattle.problem.specs.declared.Problem.{Problem}
-use Rattle.problem.specs.Columns.{problemBy}
-use Rattle.search.specs.Nodes.{Accepted, GuardsTables}
-use Rattle.search.proofs.RootLaws.{arrays-of, givenIn, root-begun}
-use Rattle.refutations.specs.Record.{recordBytes, recordOf}
+use Rattle.search.specs.Nodes.{Accepted}
+use Rattle.roots.specs.Roots.{GuardsTables}
+use Rattle.refutations.specs.Record.{recordBytes}
 use Rattle.bytebuffer.specs.declared.End.{End}
 use Rattle.bytebuffer.proofs.FillLaws.{ends-there, filled-with, fills, fits-room, outgrows}
+use Rattle.rootwriter.specs.RootRecord.{RootPuts}
 use Rattle.recordwriter.specs.declared.Written.{Written}
-use Rattle.nodewriter.specs.Writes.{Writes}
-use Rattle.recordwriter.specs.Records.{IsRecord, Records, RootPuts, writtenOf}
-
-pub root-puts : (tables : Tables) (p : Problem) → p ≡ problemBy tables → (s : State) → s ≡ foldl add (first 96) (givenIn tables p) → {out : List ℕ} {r : End} {out′ : List ℕ}
-    → Writes (p .shapes) (p .reads) (p .sorts) (p .full) (p .fieldless) (p .constants) (tables .rows .values) (tables .literals .kinds) (tables .literals .terms) (tables .literals .others) (tables .literals .many) s out 0 r out′
-    → RootPuts tables out r out′
-unfolding recordOf
-root-puts tables p ep s es w = record { puts = λ g ok is. w .puts g (g .literals) ok (arrays-of tables p ep g ok is) (root-begun tables p ep g ok is s es) }
+use Rattle.recordwriter.specs.Records.{IsRecord, Records, writtenOf}
 
 -- ---- the buffer
 

@@ -3,7 +3,7 @@
 use mathlib.Core.Path.{_≡_}
 use mathlib.Core.Bool.{true, false, cond}
 use mathlib.Core.List.{List, []}
-use Prim.Native.Nat.{ℕ, _-_}
+use Prim.Native.Nat.{ℕ}
 use lib.Dec.{leb}
 use lib.ListN.{length}
 use Rattle.guard.specs.Guard.{Guard}
@@ -11,13 +11,9 @@ use Rattle.reader.specs.declared.Tables.{Tables}
 use Rattle.reader.specs.Reader.{guardTables}
 use Rattle.search.specs.Nodes.{Accepted}
 use Rattle.refutations.specs.Record.{recordBytes}
-use Rattle.bytebuffer.specs.declared.End.{End}
-use Rattle.bytebuffer.specs.Puts.{Puts, filled}
+use Rattle.bytebuffer.specs.Puts.{filled}
 use Rattle.recordwriter.specs.declared.Written.{Written}
 
--- the record of a guard that a reader took, from the start of the buffer on
-pub record RootPuts (tables : Tables) (out : List ℕ) (r : End) (out′ : List ℕ) : Type 0 where
-  pub puts : (g : Guard) → Accepted g → tables ≡ guardTables g → Puts (recordBytes g) out 0 r out′
 
 -- whether they fit, and how many there are then
 abbrev pub writtenOf : List ℕ → ℕ → Written

@@ -7,7 +7,7 @@ ghost use mathlib.Core.Path.{_≡_};
 ghost use Rattle.problem.specs.Columns.{problemBy};
 ghost use Rattle.classes.specs.Held.{Held};
 ghost use Rattle.search.specs.Outcome.{isOpenOutcome};
-ghost use Rattle.search.specs.Nodes.{ClearedUnlessOpen, Finds, GuardsTables};
+ghost use Rattle.roots.specs.Roots.{ClearedUnlessOpen, Finds, GuardsTables};
 
 fn is_open(o: Outcome) -> bool
     ensures { λ r. ⌜ r ≡ isOpenOutcome o ⌝ }

@@ -17,8 +17,8 @@ use Rattle.guard.proofs.AnyOrder.{Follows}
 use Rattle.guard.proofs.ClosureBelow.{all-consequences}
 use Rattle.guard.proofs.ClosureState.{Small}
 use Rattle.tables.specs.Layout.{flat}
-use Rattle.problem.specs.Problem.{fieldlessOf, readsOf, shapesOf, sortsOf}
-use Rattle.slots.proofs.GuardSlots.{read-slots, shape-slots, sort-slots}
+use Rattle.arrays.specs.Arrays.{fieldlessOf, readsOf, shapesOf, sortsOf}
+use Rattle.arrays.proofs.GuardSlots.{read-slots, shape-slots, sort-slots}
 use Rattle.congruence.specs.Due.{shapesDue}
 use Rattle.congruence.proofs.ShapesFollow.{builds-follow, builds-quiet}
 use Rattle.reads.specs.Due.{defaultsDue, readsDue}

@@ -1,7 +1,7 @@
 // The closure of a node: the passes of all families of rules, until nothing is new or a label is empty.
 ghost use Rattle.classes.specs.Held.{Held, state};
 ghost use Rattle.passes.specs.Pass.{Saturated};
-ghost use Rattle.slots.specs.Slots.{ReadsFit, ShapesFit, SortsFit};
+ghost use Rattle.arrays.specs.Slots.{ReadsFit, ShapesFit, SortsFit};
 ghost use Rattle.labelled.specs.Covers.{Covers, hasMask};
 ghost use Rattle.singles.specs.Due.{PassOrStop};
 ghost use Rattle.saturation.specs.Due.{Settled, allDue};

@@ -22,7 +22,7 @@ use Rattle.guard.specs.Limits.{variantLimit}
 use Rattle.guard.specs.Node.{Split, holdsAnother}
 use Rattle.labels.specs.Label.{variantsIn}
 use Rattle.loops.specs.Lowest.{lowest}
-use Rattle.slots.specs.Slots.{ReadsFit, readBit, readKey, readTerm}
+use Rattle.arrays.specs.Slots.{ReadsFit, readBit, readKey, readTerm}
 use Rattle.slots.proofs.OnlyOne.{one-left}
 use Rattle.splits.specs.Choice.{lowestIn, onReadAt, onTermAt, readSplits, splitBy, termSplits}
 

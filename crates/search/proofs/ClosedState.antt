@@ -28,7 +28,7 @@ use Rattle.tables.specs.Layout.{literalTable, rowTable}
 use Rattle.classes.specs.Held.{Held}
 use Rattle.passes.specs.Pass.{Saturated, Steps}
 use Rattle.passes.proofs.PassLaws.{steps-keep, steps-reach}
-use Rattle.problem.specs.Problem.{constantsOf, fieldlessOf, fullOf, readsOf, shapesOf, sortsOf}
+use Rattle.arrays.specs.Arrays.{constantsOf, fieldlessOf, fullOf, readsOf, shapesOf, sortsOf}
 use Rattle.saturation.specs.Due.{allDue}
 use Rattle.saturation.proofs.Follows.{all-follow, nothing-new}
 use Rattle.splits.specs.Choice.{splitBy}

@@ -17,7 +17,7 @@ use Rattle.guard.specs.Node.{Split}
 use Rattle.guard.proofs.ClosureState.{Keeps, add-small}
 use Rattle.classes.proofs.ClassLaws.{held-after}
 use Rattle.passes.specs.Pass.{Due, Steps, Steps.done, Steps.then}
-use Rattle.slots.specs.Slots.{ReadsFit}
+use Rattle.arrays.specs.Slots.{ReadsFit}
 use Rattle.splits.specs.declared.Choice.{Choice}
 use Rattle.splits.specs.Choice.{choiceOf, splitBy}
 use Rattle.search.specs.Nodes.{StateFit}

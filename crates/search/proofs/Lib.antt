@@ -4,6 +4,4 @@ pub mod OutcomeLaws
 pub mod Choices
 pub mod VisitLaws
 pub mod Decisions
-pub mod RootLaws
 pub mod Budgets
-pub mod TablesRead

@@ -22,7 +22,7 @@ use Rattle.classes.specs.Held.{Held}
 use Rattle.loops.specs.Lowest.{lowest}
 use Rattle.loops.proofs.Loops.{lowest-none}
 use Rattle.passes.specs.Pass.{Saturated}
-use Rattle.problem.specs.Problem.{fieldlessOf, readsOf, shapesOf, sortsOf}
+use Rattle.arrays.specs.Arrays.{fieldlessOf, readsOf, shapesOf, sortsOf}
 use Rattle.reasons.specs.Reasons.{emptyAt}
 use Rattle.saturation.specs.Due.{Settled, allDue}
 use Rattle.saturation.proofs.Rounds.{saturated}

@@ -6,28 +6,26 @@ use mathlib.Core.List.{List, _∷_}
 use mathlib.Core.Option.{none}
 use Prim.Native.Nat.{ℕ, _≤_, _<_}
 use lib.IntN.{ℤ}
-use lib.ListN.{length, replicate}
+use lib.ListN.{length}
 use Rattle.laws.specs.All.{All}
 use Rattle.guard.specs.Closure.{State, closureOf, given}
 use Rattle.guard.specs.Guard.{Guard, Literal, Literal.is, Literal.isnt}
 use Rattle.guard.specs.Limits.{Limits, Supported, totalVariantLimit, variantLimit}
 use Rattle.guard.specs.Node.{isClosed, splitOf}
-use Rattle.guard.specs.Search.{search, searchOf}
+use Rattle.guard.specs.Search.{search}
 use Rattle.guard.specs.Terms.{tableOf, termCount}
 use Rattle.guard.specs.WellFormed.{WellFormed}
 use Rattle.guard.proofs.Agreement.{Agrees}
 use Rattle.guard.proofs.AnyOrder.{Reached}
 use Rattle.guard.proofs.ClosureState.{Says, Small}
 use Rattle.tables.specs.Layout.{flat, literalTable, rowTable}
-use Rattle.reader.specs.declared.Tables.{Tables}
-use Rattle.reader.specs.Reader.{guardTables}
 use Rattle.classes.specs.Held.{Held, state}
-use Rattle.problem.specs.Problem.{constantsOf, fieldlessOf, fullOf, readsOf, shapesOf, sortsOf}
-use Rattle.slots.specs.Slots.{ReadsFit, ShapesFit, SortsFit}
+use Rattle.arrays.specs.Arrays.{constantsOf, fieldlessOf, fullOf, readsOf, shapesOf, sortsOf}
+use Rattle.arrays.specs.Slots.{ReadsFit, ShapesFit, SortsFit}
 use Rattle.labelled.specs.Covers.{Covers, hasMask}
 use Rattle.reasons.specs.Reasons.{LinesFit}
 use Rattle.search.specs.declared.Outcome.{Outcome}
-use Rattle.search.specs.Outcome.{isOpenOutcome, outcome}
+use Rattle.search.specs.Outcome.{outcome}
 
 -- a guard that a reader took
 pub record Accepted (g : Guard) : Type 0 where
@@ -91,20 +89,3 @@ unfoldable pub Searches : List ℕ → List ℕ → List ℕ → List ℕ → Li
 Searches shapes reads sorts full fieldless constants values kinds terms others many left s r s′ =
     (g : Guard) (ls : List Literal) → Accepted g → ArraysOf g shapes reads sorts full fieldless constants values kinds terms others many → Begun g ls s
     → (r ≡ outcome (search (tableOf g) ls) left) × ((n : ℕ) → r ≡ Outcome.Open n → OpenLeaf g s′)
-
--- ---- the whole search
-
--- the tables are those of a guard that a reader took
-pub record GuardsTables (tables : Tables) : Type 0 where
-  pub guard : Guard
-  pub accepted : Accepted guard
-  pub is : tables ≡ guardTables guard
-
--- The outcome is that of the defined search; an open node's closure is left, and nothing where there is none.
-unfoldable pub Finds : Tables → ℕ → Outcome → List ℕ → List ℕ → Type 0
-Finds tables budget r classes labels =
-    (g : Guard) → Accepted g → tables ≡ guardTables g
-    → (r ≡ outcome (searchOf g) budget) × ((n : ℕ) → r ≡ Outcome.Open n → OpenLeaf g (state classes labels))
-
-unfoldable pub ClearedUnlessOpen : Outcome → List ℕ → List ℕ → Type 0
-ClearedUnlessOpen r classes labels = isOpenOutcome r ≡ false → (classes ≡ replicate 96 0) × (labels ≡ replicate 96 0)

@@ -14,7 +14,8 @@ use Rattle.guard.proofs.AnswerLaws.{enough, too-few}
 use Rattle.classes.specs.Held.{state}
 use Rattle.reader.specs.Reader.{guardTables}
 use Rattle.reader.specs.declared.Tables.{Tables}
-use Rattle.search.specs.Nodes.{Accepted, Finds, GuardsTables, OpenLeaf}
+use Rattle.search.specs.Nodes.{Accepted, OpenLeaf}
+use Rattle.roots.specs.Roots.{Finds, GuardsTables}
 use Rattle.search.specs.Outcome as found
 use Rattle.search.specs.declared.Outcome.{Outcome}
 use Rattle.search.proofs.Budgets.{closed-count, open-count, spent-below}

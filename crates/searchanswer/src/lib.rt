@@ -6,7 +6,7 @@ use reader::Tables;
 use search::Outcome;
 ghost use Prim.Native.Nat.{_≤_};
 ghost use lib.ListN.{length};
-ghost use Rattle.search.specs.Nodes.{GuardsTables};
+ghost use Rattle.roots.specs.Roots.{GuardsTables};
 ghost use Rattle.searchanswer.specs.Searched.{AnswersTables};
 
 // The answer to the tables of a guard, with the problem made once.

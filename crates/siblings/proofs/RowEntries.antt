@@ -14,7 +14,7 @@ use Rattle.guard.specs.Guard.{Row, rowAt}
 use Rattle.guard.specs.Terms.{Term, fieldTerms, fromRows, pairTerms}
 use Rattle.guard.specs.Types.{Variant}
 use Rattle.tables.specs.Layout.{pad}
-use Rattle.siblings.specs.Siblings.{fieldTermAt, siblingPosition}
+use Rattle.fieldterms.specs.FieldTerms.{fieldTermAt, siblingPosition}
 
 -- ---- columns row by row
 

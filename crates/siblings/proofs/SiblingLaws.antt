@@ -21,8 +21,10 @@ use Rattle.tables.specs.Layout.{TypesInRange, flat, pad, rowKind, rowParts, row
 use Rattle.tables.proofs.Columns.{pad-get}
 use Rattle.tables.proofs.Lookups.{arity-at, first-at, flat-all, offset-inside, offsetOf, row-kind-at, row-part-at, row-type-anywhere, row-variant-at, sort-at}
 use Rattle.tables.proofs.TypesBack.{table-in-range}
-use Rattle.siblings.specs.Siblings.{ReadsInRange, fieldEntries, fieldEntry, fieldTermAt, placeAt, rowFields, rowSorts, siblingPosition, siblingsBy, siblingsIn, sortEntries, sortEntry}
-use Rattle.siblings.proofs.EntryLaws.{both-columns, field-other, position-small, sort-other}
+use Rattle.fieldterms.specs.FieldTerms.{ReadsInRange, fieldTermAt, placeAt, siblingPosition}
+use Rattle.fieldterms.proofs.FieldTermLaws.{position-small}
+use Rattle.siblings.specs.Siblings.{fieldEntries, fieldEntry, rowFields, rowSorts, siblingsBy, siblingsIn, sortEntries, sortEntry}
+use Rattle.siblings.proofs.EntryLaws.{both-columns, field-other, sort-other}
 use Rattle.siblings.proofs.RowEntries.{place-of-row, places-by-row, read-fields, read-sorts, sortOr0, termOr0, three, two}
 
 all-at : {A : Type 0} (P : A → Type 0) (d : A) (xs : List A) → ((i : ℕ) → i < length xs → P (getD xs i d)) → All P xs

@@ -1,8 +1,7 @@
 -- The columns of sibling fields: for a guard, and place by place from the columns of its tables. Assumes nothing.
-use mathlib.Core.Path.{_≡_}
 use mathlib.Core.Bool.{cond}
 use mathlib.Core.List.{List, map}
-use Prim.Native.Nat.{ℕ, suc, _+_, _*_, _/_, _%_, _≤_, _<_}
+use Prim.Native.Nat.{ℕ, suc, _+_, _*_, _/_, _%_, _<_}
 use lib.Dec.{eqb, ltb}
 use lib.ListN.{getD}
 use Rattle.laws.specs.Lists.{concatMap, from}
@@ -12,6 +11,8 @@ use Rattle.guard.specs.Types.{Types}
 use Rattle.tables.specs.Layout.{pad}
 use Rattle.tables.specs.declared.RowTable.{RowTable}
 use Rattle.tables.specs.declared.TypeTable.{TypeTable}
+use Rattle.fieldterms.specs.FieldTerms.{fieldTermAt, placeAt, siblingPosition}
+pub use Rattle.fieldterms.specs.FieldTerms.{ReadsInRange}
 use Rattle.siblings.specs.declared.Siblings.{Siblings}
 
 -- ---- of a guard
@@ -29,18 +30,6 @@ unfoldable pub siblingsIn : Types → List Row → Siblings
 siblingsIn ts rs = record { fields = pad 72 (fromRows (rowFields ts) 0 rs); sorts = pad 48 (fromRows (rowSorts ts) 0 rs) }
 
 -- ---- by the columns of the tables
-
--- the term of the field at position q, for row r that reads position p
-unfoldable pub fieldTermAt : ℕ → ℕ → ℕ → ℕ
-fieldTermAt r p q = cond (eqb q p) r (cond (ltb q p) (24 + 2 * r + q) (23 + 2 * r + q))
-
--- the position of sibling k
-unfoldable pub siblingPosition : ℕ → ℕ → ℕ
-siblingPosition p k = cond (ltb k p) k (k + 1)
-
--- the number of the variant read among the variants of all types
-unfoldable pub placeAt : List ℕ → List ℕ → List ℕ → List ℕ → ℕ → ℕ
-placeAt types variants parts first i = getD first (getD types (getD parts (3 * i) 0) 0) 0 + getD variants i 0
 
 -- an entry of a field read, where the variant has such a field
 abbrev pub entry : ℕ → ℕ → ℕ → ℕ → ℕ
@@ -74,13 +63,6 @@ siblingsBy table rows =
     }
 
 -- ---- what a caller ensures
-
--- the numbers of the field reads are in range; `n` rows
-pub record ReadsInRange (n : ℕ) (kinds types variants parts first : List ℕ) : Type 0 where
-  pub many : n ≤ 24
-  pub term : (i : ℕ) → i < n → getD kinds i 0 ≡ 3 → getD parts (3 * i) 0 < 24
-  pub type : (i : ℕ) → i < n → getD kinds i 0 ≡ 3 → getD types (getD parts (3 * i) 0) 0 < 6
-  pub place : (i : ℕ) → i < n → getD kinds i 0 ≡ 3 → placeAt types variants parts first i < 48
 
 -- the types of fields are in range
 abbrev pub SortsInRange : List ℕ → List ℕ → Type 0

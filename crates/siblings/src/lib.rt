@@ -4,67 +4,14 @@ use tables::RowTable;
 use tables::TypeTable;
 ghost use mathlib.Core.Path.{_≡_};
 ghost use Prim.Native.Nat.{_<_, _*_};
-ghost use lib.ListN.{getD};
 ghost use Rattle.tables.specs.Layout.{TypesInRange};
-ghost use Rattle.siblings.specs.Siblings.{ReadsInRange, SortsInRange, fieldEntries, fieldEntry, fieldTermAt, placeAt, siblingPosition, siblingsBy, sortEntries, sortEntry};
+ghost use Rattle.siblings.specs.Siblings.{ReadsInRange, SortsInRange, fieldEntries, fieldEntry, siblingsBy, sortEntries, sortEntry};
 
 pub struct Siblings {
     // three places to a row: for a field read the terms of its variant's fields in order of position
     pub fields: [u8; 72],
     // two places to a row: the type of sibling term 24 + 2 × row + k, plus one; 0 where there is no such term
     pub sorts: [u8; 48],
-}
-
-// A byte as an index.
-fn wide(x: u8) -> usize
-    ensures { λ r. ⌜ r ≡ x ⌝ }
-{
-    x as usize
-}
-
-// The number of the variant read by row `i` among the variants of all types.
-fn place(
-    many: usize,
-    kinds: &[u8; 24],
-    types: &[u8; 24],
-    variants: &[u8; 24],
-    parts: &[u8; 72],
-    first: &[u8; 6],
-    i: usize,
-) -> usize
-    requires { ⌜ ReadsInRange many (now kinds) (now types) (now variants) (now parts) (now first) ⌝ }
-    requires { ⌜ i < many ⌝ }
-    requires { ⌜ getD (now kinds) i 0 ≡ 3 ⌝ }
-    ensures { λ r. ⌜ r ≡ placeAt (now (types .entry)) (now (variants .entry)) (now (parts .entry)) (now (first .entry)) i ⌝ }
-{
-    let a = wide(parts[3 * i]);
-    let t = wide(types[a]);
-    let start = wide(first[t]);
-    let v = wide(variants[i]);
-    start + v
-}
-
-// The term of the field at position `q`, for a read at `position` in row `row`.
-fn field_term(row: u8, position: u8, q: u8) -> u8
-    requires { ⌜ row < 24 ⌝ }
-    requires { ⌜ q < 3 ⌝ }
-    ensures { λ r. ⌜ r ≡ fieldTermAt row position q ⌝ }
-{
-    if q == position {
-        return row;
-    }
-    if q < position {
-        return 24 + 2 * row + q;
-    }
-    23 + 2 * row + q
-}
-
-// The position of sibling `k`.
-fn sibling_position(position: usize, k: usize) -> usize
-    requires { ⌜ k < 2 ⌝ }
-    ensures { λ r. ⌜ r ≡ siblingPosition position k ⌝ }
-{
-    if k < position { k } else { k + 1 }
 }
 
 // The entry of row `i` at position `q` in the column of fields.
@@ -87,11 +34,11 @@ fn field_entry(
     if kinds[i] != 3 {
         return 0;
     }
-    let w = place(many, kinds, types, variants, parts, first, i);
-    if wide(arities[w]) <= q {
+    let w = fieldterms::place(many, kinds, types, variants, parts, first, i);
+    if fieldterms::wide(arities[w]) <= q {
         return 0;
     }
-    field_term(i as u8, parts[3 * i + 1], q as u8)
+    fieldterms::field_term(i as u8, parts[3 * i + 1], q as u8)
 }
 
 // The entry of row `i` for sibling `k` in the column of types.
@@ -116,9 +63,9 @@ fn sort_entry(
     if kinds[i] != 3 {
         return 0;
     }
-    let w = place(many, kinds, types, variants, parts, first, i);
-    let q = sibling_position(wide(parts[3 * i + 1]), k);
-    if wide(arities[w]) <= q {
+    let w = fieldterms::place(many, kinds, types, variants, parts, first, i);
+    let q = fieldterms::sibling_position(fieldterms::wide(parts[3 * i + 1]), k);
+    if fieldterms::wide(arities[w]) <= q {
         return 0;
     }
     sorts[3 * w + q] + 1

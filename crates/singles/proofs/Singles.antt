@@ -21,8 +21,8 @@ use Rattle.guard.specs.Limits.{variantLimit}
 use Rattle.guard.proofs.ClosureEnds.{add-le, add-lt}
 use Rattle.passes.specs.Pass.{Pass, Steps, Steps.done, Steps.then}
 use Rattle.passes.proofs.PassLaws.{steps-le}
-use Rattle.slots.specs.Slots.{fieldlessAt, onlyIs, sortAt}
-use Rattle.slots.proofs.DueLaws.{mem-when}
+use Rattle.arrays.specs.Slots.{fieldlessAt, onlyIs, sortAt}
+use Rattle.arrays.proofs.DueLaws.{mem-when}
 use Rattle.labelled.specs.Covers.{hasMask}
 use Rattle.reasons.specs.Reasons.{emptyAt}
 use Rattle.singles.specs.Due.{singleDue, singlesDue, singlesFor, singlesOf}

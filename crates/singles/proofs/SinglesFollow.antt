@@ -20,11 +20,11 @@ use Rattle.guard.specs.Terms.{Table, Term, fieldless}
 use Rattle.guard.specs.Types.{variantsOf}
 use Rattle.guard.proofs.AnyOrder.{Follows, Follows.by-single}
 use Rattle.guard.proofs.TableLaws.{fieldless-is}
-use Rattle.problem.specs.Problem.{maskOf}
-use Rattle.slots.specs.Slots.{fieldlessAt, onlyIs, sortAt}
-use Rattle.slots.proofs.TableSlots.{SortSlots}
-use Rattle.slots.proofs.DueLaws.{either-order, is-nonzero, mem-one, nonzero-is, one-is, one-quiet, quiet-one, slots-are, slots-at}
-use Rattle.slots.proofs.MaskLaws.{bit-fieldless, fieldless-bit}
+use Rattle.arrays.specs.Arrays.{maskOf}
+use Rattle.arrays.specs.Slots.{fieldlessAt, onlyIs, sortAt}
+use Rattle.arrays.proofs.TableSlots.{SortSlots}
+use Rattle.arrays.proofs.DueLaws.{either-order, is-nonzero, mem-one, nonzero-is, one-is, one-quiet, quiet-one, slots-are, slots-at}
+use Rattle.arrays.proofs.MaskLaws.{bit-fieldless, fieldless-bit}
 use Rattle.singles.specs.Due.{singleDue, singlesDue, singlesFor, singlesOf}
 
 module _ (t : Table) (sorts masks : List ℕ) (slots : SortSlots t sorts masks) (s : State) where

@@ -11,7 +11,7 @@ use Rattle.guard.specs.Closure.{Fact, Fact.same, State, holds, size}
 use Rattle.guard.specs.Limits.{variantLimit}
 use Rattle.loops.specs.Lowest.{lowest}
 use Rattle.passes.specs.Pass.{Due, Steps}
-use Rattle.slots.specs.Slots.{onlyIs, sortAt}
+use Rattle.arrays.specs.Slots.{onlyIs, sortAt}
 use Rattle.reasons.specs.Reasons.{emptyAt}
 
 module _ (sorts fieldless : List ℕ) (s : State) where

@@ -10,7 +10,7 @@ use lib.ListN.{length, getD}
 use Rattle.guard.specs.Closure.{SameAt, State, size}
 use Rattle.guard.specs.Limits.{variantLimit}
 use Rattle.passes.specs.Pass.{Steps}
-use Rattle.slots.specs.Slots.{onlyIs, sortAt}
+use Rattle.arrays.specs.Slots.{onlyIs, sortAt}
 use Rattle.reasons.specs.Reasons.{emptyAt}
 use Rattle.singles.specs.Due.{singlesDue}
 

@@ -3,7 +3,7 @@ ghost use mathlib.Core.Path.{_≡_};
 ghost use mathlib.Core.Bool.{false, _&&_};
 ghost use Prim.Native.Nat.{_+_, _<_};
 ghost use Rattle.classes.specs.Held.{Held, state};
-ghost use Rattle.slots.specs.Slots.{SortsFit};
+ghost use Rattle.arrays.specs.Slots.{SortsFit};
 ghost use Rattle.labelled.specs.Covers.{Covers, hasMask};
 ghost use Rattle.reasons.specs.Reasons.{emptyAt};
 ghost use Rattle.singles.specs.Due.{PassOrStop, singlesDue};

@@ -17,7 +17,7 @@ use Rattle.laws.proofs.Lists.{all-true-inv, filter-is, from-bounds, mem-from}
 use Rattle.guard.specs.Closure.{State, alone, labelOf}
 use Rattle.guard.specs.Limits.{variantLimit}
 use Rattle.labels.specs.Label.{variantsIn}
-use Rattle.slots.specs.Slots.{fieldlessAt, onlyIs}
+use Rattle.arrays.specs.Slots.{fieldlessAt, onlyIs}
 
 -- ---- the variants of a label with one variant
 

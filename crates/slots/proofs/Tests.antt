@@ -8,7 +8,7 @@ use lib.Dec.{eqb}
 use borrow.Author.Tests.{eq-eqb, ne-eqb}
 use Rattle.guard.specs.Closure.{State, labelOf}
 use Rattle.loops.proofs.Tests.{no-and, yes-and}
-use Rattle.slots.specs.Slots.{active, kindAt, othersAt, ownerAt}
+use Rattle.arrays.specs.Slots.{active, kindAt, othersAt, ownerAt}
 
 module _ (shapes : List ℕ) (s : State) (k : ℕ) where
   pub no-shape : kindAt shapes k ≡ 0 → false ≡ active shapes s k

@@ -3,7 +3,7 @@ ghost use mathlib.Core.Path.{_≡_};
 ghost use Prim.Native.Nat.{_<_};
 ghost use Rattle.guard.specs.Closure.{labelOf, sameClass};
 ghost use Rattle.classes.specs.Held.{Held, state};
-ghost use Rattle.slots.specs.Slots.{ReadsFit, ShapesFit, SortsFit, active, fieldlessAt, kindAt, manyAt, onlyIs, othersAt, ownerAt, partAt, readBit, readDefault, readKey, readTerm};
+ghost use Rattle.arrays.specs.Slots.{ReadsFit, ShapesFit, SortsFit, active, fieldlessAt, kindAt, manyAt, onlyIs, othersAt, ownerAt, partAt, readBit, readDefault, readKey, readTerm};
 
 pub fn same_class(classes: &[u8; 96], labels: &[u16; 96], i: u8, j: u8) -> bool
     requires { ⌜ (i < 96) × (j < 96) ⌝ }

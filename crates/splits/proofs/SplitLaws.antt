@@ -29,12 +29,12 @@ use Rattle.labels.specs.Label.{variantsIn}
 use Rattle.labels.proofs.LabelLaws.{lacks-test, shifted-one}
 use Rattle.loops.specs.Lowest.{lowest}
 use Rattle.loops.proofs.Loops.{both}
-use Rattle.problem.specs.Problem.{fieldlessOf, maskOf, readsOf, sortsOf}
-use Rattle.slots.specs.Slots.{fieldlessAt, readBit, readKey, readTerm, sortAt}
-use Rattle.slots.proofs.GuardSlots.{read-slots, sort-slots}
-use Rattle.slots.proofs.MaskLaws.{bit-fieldless, fieldless-bit}
+use Rattle.arrays.specs.Arrays.{fieldlessOf, maskOf, readsOf, sortsOf}
+use Rattle.arrays.specs.Slots.{fieldlessAt, readBit, readKey, readTerm, sortAt}
+use Rattle.arrays.proofs.GuardSlots.{read-slots, sort-slots}
+use Rattle.arrays.proofs.MaskLaws.{bit-fieldless, fieldless-bit}
 use Rattle.slots.proofs.OnlyOne.{one-left}
-use Rattle.slots.proofs.TableSlots.{ReadSlot, ReadSlots, SortSlots}
+use Rattle.arrays.proofs.TableSlots.{ReadSlot, ReadSlots, SortSlots}
 use Rattle.splits.specs.Choice.{lowestIn, onReadAt, onTermAt, readSplits, splitAt, splitBy, termSplits}
 use Rattle.splits.proofs.InOrder.{find-lowest}
 use Rattle.splits.proofs.Tests.{no-variants}

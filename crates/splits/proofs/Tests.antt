@@ -14,8 +14,8 @@ use Rattle.labels.specs.Label.{variantsIn}
 use Rattle.loops.proofs.Tests.{and-no, and-yes, no-and, yes-and}
 use Rattle.labelled.specs.Covers.{Covers, hasMask}
 use Rattle.labelled.proofs.Covering.{covers-less}
-use Rattle.slots.proofs.DueLaws.{is-nonzero}
-use Rattle.slots.specs.Slots.{fieldlessAt, readBit, readKey, readTerm}
+use Rattle.arrays.proofs.DueLaws.{is-nonzero}
+use Rattle.arrays.specs.Slots.{fieldlessAt, readBit, readKey, readTerm}
 use Rattle.splits.specs.Choice.{readSplits, termSplits}
 
 module _ (reads : List ℕ) (s : State) (k : ℕ) where

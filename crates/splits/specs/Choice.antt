@@ -10,7 +10,7 @@ use Rattle.guard.specs.Closure.{State, labelOf}
 use Rattle.guard.specs.Node.{Split}
 use Rattle.labels.specs.Label.{variantsIn}
 use Rattle.loops.specs.Lowest.{lowest}
-use Rattle.slots.specs.Slots.{fieldlessAt, readBit, readKey, readTerm}
+use Rattle.arrays.specs.Slots.{fieldlessAt, readBit, readKey, readTerm}
 use Rattle.splits.specs.declared.Choice.{Choice}
 
 -- the lowest variant of a label

@@ -4,7 +4,7 @@ ghost use mathlib.Core.Option.{some};
 ghost use Prim.Native.Nat.{_<_};
 ghost use Rattle.classes.specs.Held.{Held, state};
 ghost use Rattle.loops.specs.Lowest.{lowest};
-ghost use Rattle.slots.specs.Slots.{ReadsFit, SortsFit};
+ghost use Rattle.arrays.specs.Slots.{ReadsFit, SortsFit};
 ghost use Rattle.labelled.specs.Covers.{Covers, hasMask};
 ghost use Rattle.splits.specs.Choice.{choiceOf, lowestIn, readSplits, splitBy, termSplits};
 use slots::label_at;

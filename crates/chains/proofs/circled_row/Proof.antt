@@ -4,7 +4,7 @@ use Rattle.chains.proofs.circled_row.Statement.{statement}
 use Rattle.chains.proofs.circled_row.Tie as tie
 use Rattle.chains.proofs.ChainLaws.{circle-room, circled-drew, circled-noted, circled-room, circled-type, distance-grows, distance-read, root-back, root-cyclic, root-inside, root-read, start-less}
 use lib.ListN.{getD}
-use Rattle.growthrows.proofs.FormLaws.{type-small}
+use Rattle.forms.proofs.FormLaws.{type-small}
 
 element-copy-out-root : tie.Need-element-copy-out-root
 element-copy-out-root c =

@@ -4,11 +4,11 @@ use Rattle.chains.proofs.ended_row.Statement.{statement}
 use Rattle.chains.proofs.ended_row.Tie as tie
 use Rattle.chains.proofs.ChainLaws.{end-grows, end-room, end-store, end-there, end-type, ended-drew, start-less, steps-read}
 use lib.ListN.{getD}
-use Rattle.growthrows.proofs.FormLaws.{type-small}
+use Rattle.forms.proofs.FormLaws.{type-small}
 use mathlib.Core.Path.{subst}
 use lib.IntN.{ℤ}
 use mir.Facts.{toZ-ofZ}
-use Rattle.growthrows.specs.Drawing.{NumberDrawn}
+use Rattle.drawnrows.specs.Drawing.{NumberDrawn}
 
 element-copy-out-n : tie.Need-element-copy-out-n
 element-copy-out-n c =

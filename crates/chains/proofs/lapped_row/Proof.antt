@@ -8,8 +8,8 @@ use native.Mathlib.Omega.{arith}
 use native.Mathlib.Numerals.{add-one}
 use lib.ListN.{set}
 use Rattle.growth.proofs.ClosedPlans.{lap}
-use Rattle.growthrows.specs.Forms.{typesIn}
-use Rattle.growthrows.proofs.FormLaws.{type-small}
+use Rattle.forms.specs.Forms.{typesIn}
+use Rattle.forms.proofs.FormLaws.{type-small}
 
 top-row-requires : tie.Need-top-row-requires
 top-row-requires c κs =

@@ -7,7 +7,7 @@ use mathlib.Core.Path.{ap, sym, _∙_, subst}
 use Prim.Native.Nat.{ℕ, _<_}
 use lib.ListN.{length}
 use Rattle.guard.specs.Types.{fieldType, fieldsOf}
-use Rattle.growthrows.specs.Forms.{typesIn}
+use Rattle.forms.specs.Forms.{typesIn}
 
 chosen-requires : tie.Need-chosen-requires
 chosen-requires c κs = search needs

@@ -3,7 +3,7 @@ use borrow.Author.Needs.{needs}
 use Rattle.chains.proofs.top_row.Statement.{statement}
 use Rattle.chains.proofs.top_row.Tie as tie
 use Rattle.chains.proofs.ChainLaws.{top-default, top-known, top-low}
-use Rattle.growthrows.proofs.FormLaws.{type-small}
+use Rattle.forms.proofs.FormLaws.{type-small}
 use native.Mathlib.Omega.{arith}
 
 mul-known : tie.Need-mul-known

@@ -3,7 +3,7 @@ use borrow.Author.Needs.{needs}
 use Rattle.chains.proofs.turns.Statement.{statement}
 use Rattle.chains.proofs.turns.Tie as tie
 use Rattle.chains.proofs.ChainLaws.{period-some, turns-lap, turns-small}
-use Rattle.growthrows.proofs.FormLaws.{type-small}
+use Rattle.forms.proofs.FormLaws.{type-small}
 use Rattle.tables.proofs.Held.{held-many}
 use native.Mathlib.Omega.{arith}
 use Prim.Native.Nat.{_+_, _-_}

@@ -3,7 +3,8 @@ use mathlib.Core.Path.{sym, _∙_}
 use borrow.Author.Needs.{needs}
 use borrow.Author.Tests.{not-false, not-true}
 use Rattle.loops.proofs.Tests.{no-and, yes-and}
-use Rattle.claims.proofs.ClaimTests.{tells, term-small}
+use Rattle.splitclaims.proofs.SplitTests.{term-small}
+use Rattle.claims.proofs.ClaimTests.{tells}
 use Rattle.claims.proofs.is_empty.Statement.{statement}
 use Rattle.claims.proofs.is_empty.Tie as tie
 

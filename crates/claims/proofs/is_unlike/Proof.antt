@@ -5,8 +5,9 @@ use native.Mathlib.Omega.{arith}
 use borrow.Author.Needs.{needs}
 use borrow.Author.Tests.{not-false, not-true}
 use Rattle.loops.proofs.Tests.{no-and, yes-and}
-use Rattle.claims.specs.Claims.{unlikeIn}
-use Rattle.claims.proofs.ClaimTests.{tells, term-small}
+use Rattle.unlikeconstants.specs.Unlike.{unlikeIn}
+use Rattle.splitclaims.proofs.SplitTests.{term-small}
+use Rattle.claims.proofs.ClaimTests.{tells}
 use Rattle.claims.proofs.is_unlike.Statement.{statement}
 use Rattle.claims.proofs.is_unlike.Tie as tie
 

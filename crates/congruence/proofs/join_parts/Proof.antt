@@ -7,7 +7,7 @@ use Rattle.classes.specs.Held.{Held, state}
 use Rattle.classes.proofs.ClassLaws.{still-held}
 use Rattle.passes.specs.Pass.{Pass}
 use Rattle.passes.proofs.PassLaws.{all-done, none-yet, one-more, steps-keep, upTo}
-use Rattle.slots.specs.Slots.{manyAt}
+use Rattle.arrays.specs.Slots.{manyAt}
 use Rattle.congruence.specs.Due.{partDue, partsDue}
 use Rattle.congruence.proofs.Joins.{part-joined}
 use Rattle.congruence.proofs.join_parts.Statement.{statement}

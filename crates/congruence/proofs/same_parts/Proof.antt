@@ -6,7 +6,7 @@ use native.Mathlib.Omega.{arith}
 use borrow.Author.Count.{below-more}
 use Rattle.guard.specs.Closure.{sameClass}
 use Rattle.classes.specs.Held.{state}
-use Rattle.slots.specs.Slots.{partAt}
+use Rattle.arrays.specs.Slots.{partAt}
 use borrow.Author.Tests.{not-false, not-true}
 use Rattle.congruence.proofs.Tests.{SameUpTo, parts-differ, parts-same}
 use Rattle.congruence.proofs.same_parts.Statement.{statement}

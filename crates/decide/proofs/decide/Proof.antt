@@ -4,7 +4,7 @@ use borrow.Author.Needs.{needs}
 use Rattle.guard.specs.Limits.{base}
 use Rattle.guard.proofs.Claims.{base-supported}
 use Rattle.decide.proofs.Decided.{file-refused, short-places, short-rows, tables-decide}
-use Rattle.search.proofs.TablesRead.{tables-read}
+use Rattle.roots.proofs.TablesRead.{tables-read}
 use Rattle.decide.proofs.decide.Statement.{statement}
 use Rattle.decide.proofs.decide.Tie as tie
 

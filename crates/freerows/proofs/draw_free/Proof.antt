@@ -8,7 +8,7 @@ use Prim.Native.Nat.{ℕ, suc}
 use native.Mathlib.Omega.{arith}
 use native.Mathlib.Numerals.{add-one}
 use lib.ListN.{set}
-use Rattle.growthrows.specs.Forms.{typesIn}
+use Rattle.forms.specs.Forms.{typesIn}
 use Rattle.leaf.specs.Leaf.{openState}
 use Rattle.freerows.specs.Free.{FreeStage}
 

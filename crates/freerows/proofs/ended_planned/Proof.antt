@@ -9,8 +9,8 @@ use mir.Syntax.{w32}
 use mir.Val.{toZ}
 use Rattle.growth.proofs.Growth.{chosenType, stepsToNumber}
 use Rattle.growth.proofs.Plans.{Plan.into, plannedMessage}
-use Rattle.growthrows.specs.Forms.{typesIn}
-use Rattle.growthrows.specs.Drawing.{Drew}
+use Rattle.forms.specs.Forms.{typesIn}
+use Rattle.drawnrows.specs.Drawing.{Drew}
 
 next-fresh-requires : tie.Need-next-fresh-requires
 next-fresh-requires c κs = search needs

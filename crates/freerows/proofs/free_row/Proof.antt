@@ -3,8 +3,8 @@ use borrow.Author.Needs.{needs}
 use Rattle.freerows.proofs.free_row.Statement.{statement}
 use Rattle.freerows.proofs.free_row.Tie as tie
 use Rattle.freerows.proofs.FreeLaws.{last-low, number-free, read-number, read-variants, type-known}
-use Rattle.growthrows.specs.Forms.{typesIn}
-use Rattle.growthrows.proofs.FormLaws.{type-small}
+use Rattle.forms.specs.Forms.{typesIn}
+use Rattle.forms.proofs.FormLaws.{type-small}
 use Rattle.leaf.specs.Leaf.{openState}
 use native.Mathlib.Omega.{arith}
 

@@ -9,7 +9,7 @@ use Prim.Native.Nat.{ℕ, suc, _-_, _≤_}
 use native.Mathlib.Omega.{arith}
 use native.Mathlib.Numerals.{add-one}
 use Rattle.rowstore.proofs.StoreLaws.{grown-itself, grown-twice}
-use Rattle.growthrows.specs.Forms.{typesIn}
+use Rattle.forms.specs.Forms.{typesIn}
 use Rattle.leaf.specs.Leaf.{openState}
 
 abbrev Inv-loop : tie.InvT-loop

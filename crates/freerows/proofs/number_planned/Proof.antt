@@ -7,7 +7,7 @@ use mathlib.Core.Path.{_≡_, subst}
 use lib.IntN.{ℤ, pos}
 use mir.Syntax.{w32}
 use mir.Val.{toZ}
-use Rattle.growthrows.specs.Drawing.{NumberDrawn}
+use Rattle.drawnrows.specs.Drawing.{NumberDrawn}
 
 next-fresh-requires : tie.Need-next-fresh-requires
 next-fresh-requires c κs = search needs

@@ -3,7 +3,7 @@ use borrow.Author.Needs.{needs}
 use Rattle.freerows.proofs.type_of.Statement.{statement}
 use Rattle.freerows.proofs.type_of.Tie as tie
 use Rattle.freerows.proofs.FreeLaws.{sort-some, type-read}
-use Rattle.growthrows.specs.Forms.{typesIn}
+use Rattle.forms.specs.Forms.{typesIn}
 use Rattle.leaf.specs.Leaf.{openState}
 
 sort-for-requires : tie.Need-sort-for-requires

@@ -4,8 +4,8 @@ use Rattle.freerows.proofs.variant_planned.Statement.{statement}
 use Rattle.freerows.proofs.variant_planned.Tie as tie
 use Rattle.freerows.proofs.FreeLaws.{circled-free, class-starts, ended-free, last-low, tops-typed, type-known, variant-fits, variant-wide}
 use Rattle.chains.proofs.ChainLaws.{start-less, steps-most, steps-read}
-use Rattle.growthrows.specs.Forms.{typesIn}
-use Rattle.growthrows.proofs.FormLaws.{type-small}
+use Rattle.forms.specs.Forms.{typesIn}
+use Rattle.forms.proofs.FormLaws.{type-small}
 use Rattle.leaf.specs.Leaf.{openState}
 use Rattle.tables.proofs.Held.{held-many}
 use native.Mathlib.Omega.{arith}

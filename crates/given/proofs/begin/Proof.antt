@@ -2,8 +2,11 @@
 use borrow.Author.Needs.{needs}
 use Rattle.guard.proofs.ClosureEnds.{first}
 use Rattle.classes.specs.Held.{state}
-use Rattle.given.specs.Facts.{allVariantsBy, constantsBy, givenBy, literalsBy, oneVariantBy}
-use Rattle.given.proofs.Adding.{adds-all}
+use Rattle.facts.proofs.Adding.{adds-all}
+use Rattle.labelfacts.specs.Labels.{allVariantsBy, oneVariantBy}
+use Rattle.constantfacts.specs.Equal.{constantsBy}
+use Rattle.literalfacts.specs.Literals.{literalsBy}
+use Rattle.given.specs.Given.{givenBy}
 use Rattle.given.proofs.begin.Statement.{statement}
 use Rattle.given.proofs.begin.Tie as tie
 

@@ -5,8 +5,8 @@ use native.Mathlib.Omega.{arith}
 use borrow.Author.Needs.{needs}
 use Rattle.growth.proofs.Growth.{nextType}
 use Rattle.growth.proofs.Orbit.{iterate}
-use Rattle.growthrows.specs.Forms.{typesIn}
-use Rattle.growthrows.proofs.FormLaws.{type-small}
+use Rattle.forms.specs.Forms.{typesIn}
+use Rattle.forms.proofs.FormLaws.{type-small}
 use Rattle.growthrows.proofs.StepLaws.{Grew, grew-is, grew-nothing, step-chosen, step-drew, step-fields, step-room, step-type, step-variant}
 use Rattle.growthrows.proofs.grow.Statement.{statement}
 use Rattle.growthrows.proofs.grow.Tie as tie

@@ -3,8 +3,8 @@ use mathlib.Core.Path.{_≡_, refl, ap, sym}
 use Prim.Native.Nat.{ℕ, _*_, _-_, _≤_}
 use native.Mathlib.Omega.{arith}
 use Rattle.growth.proofs.Growth.{periodOf}
-use Rattle.growthrows.specs.Forms.{typesIn}
-use Rattle.growthrows.proofs.FormLaws.{type-small}
+use Rattle.forms.specs.Forms.{typesIn}
+use Rattle.forms.proofs.FormLaws.{type-small}
 use Rattle.growthrows.proofs.StepLaws.{Grew, grew-is, grew-nothing, round-drew, round-grows, round-room, round-type}
 use Rattle.growthrows.proofs.rounds.Statement.{statement}
 use Rattle.growthrows.proofs.rounds.Tie as tie

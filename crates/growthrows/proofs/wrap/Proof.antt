@@ -1,6 +1,7 @@
 -- `wrap` meets its contract. Assumes nothing.
 use borrow.Author.Needs.{needs}
-use Rattle.growthrows.proofs.StepLaws.{parted-low, wrap-drew, wrap-few, wrap-given, wrap-long, wrap-room, wrap-under}
+use Rattle.defaultrows.proofs.DefaultForms.{parted-low}
+use Rattle.growthrows.proofs.StepLaws.{wrap-drew, wrap-few, wrap-given, wrap-long, wrap-room, wrap-under}
 use Rattle.growthrows.proofs.wrap.Statement.{statement}
 use Rattle.growthrows.proofs.wrap.Tie as tie
 

@@ -7,7 +7,7 @@ use lib.Dec.{eqb}
 use lib.ListN.{getD}
 use borrow.Author.Tests.{eq-eqb, ne-eqb}
 use Rattle.loops.proofs.Tests.{no-and, yes-and}
-use Rattle.given.proofs.GivenTests.{constant-small}
+use Rattle.constants.proofs.ConstantTests.{constant-small}
 use Rattle.kinds.specs.Found.{isFixed}
 use borrow.Author.Needs.{needs}
 use Rattle.kinds.proofs.is_fixed.Statement.{statement}

@@ -5,7 +5,7 @@ use borrow.Author.Tests.{eq-eqb, le-ltb, lt-ltb, ne-eqb}
 use Rattle.guard.specs.Closure.{labelOf}
 use Rattle.classes.specs.Held.{state}
 use Rattle.loops.proofs.Tests.{no-and, yes-and}
-use Rattle.slots.specs.Slots.{onlyIs}
+use Rattle.arrays.specs.Slots.{onlyIs}
 use Rattle.splits.specs.Choice.{lowestIn}
 use Rattle.kinds.specs.Found.{isSingle}
 use borrow.Author.Needs.{needs}

@@ -4,7 +4,7 @@ use native.Mathlib.Omega.{arith}
 use borrow.Author.Needs.{needs}
 use borrow.Author.Tests.{not-false, not-true}
 use Rattle.classes.specs.Held.{state}
-use Rattle.slots.specs.Slots.{ownerAt}
+use Rattle.arrays.specs.Slots.{ownerAt}
 use Rattle.levels.proofs.LevelLaws.{at-bottom, below, no-parts, not-active, sunk}
 use Rattle.levels.proofs.sink.Statement.{statement}
 use Rattle.levels.proofs.sink.Tie as tie

@@ -1,8 +1,8 @@
 -- `read_literals` meets its contract. Invariant: the literals read stand in the columns, and those left come after them. Assumes
 -- nothing.
 use borrow.Author.Needs.{needs}
+use Rattle.literalkinds.specs.OneLiteral.{literalBy}
 use Rattle.literalreader.proofs.LiteralLaws.{Read, at-the-end, count-stops, literals-stop, not-ended, read-all, read-next, read-none, read-stops, read-table}
-use Rattle.literalreader.specs.LiteralReader.{literalBy}
 use Rattle.numbers.proofs.Answers.{below-says, below-small}
 use mathlib.Core.Path.{_∙_, ap}
 use Prim.Native.Nat.{_+_, _-_}

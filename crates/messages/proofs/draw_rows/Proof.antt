@@ -2,7 +2,7 @@
 use borrow.Author.Needs.{needs}
 use Rattle.messages.proofs.draw_rows.Statement.{statement}
 use Rattle.messages.proofs.draw_rows.Tie as tie
-use Rattle.growthrows.specs.Forms.{typesIn}
+use Rattle.forms.specs.Forms.{typesIn}
 use Rattle.messages.proofs.RowLaws.{free-staged, most-is, most-small, rows-drawn}
 
 highest-rank-requires : tie.Need-highest-rank-requires

@@ -7,7 +7,7 @@ use lib.Dec.{eqb}
 use lib.ListN.{getD, set}
 use native.Mathlib.Omega.{arith}
 use Rattle.classes.specs.Held.{state}
-use Rattle.slots.specs.Slots.{manyAt}
+use Rattle.arrays.specs.Slots.{manyAt}
 use Rattle.needed.specs.Needed.{PartMarked, Pass, UpTo, ownClass}
 use Rattle.needed.proofs.Marking.{all-done, none-yet, one-more, part-pass, still-leads}
 use Rattle.needed.proofs.mark_parts.Statement.{statement}

@@ -10,7 +10,7 @@ use borrow.Fn.PlainCycle.{Measures, is, falls, and}
 use Rattle.guard.specs.Closure.{Fact.within, State, add}
 use Rattle.classes.specs.Held.{state}
 use Rattle.passes.proofs.PassLaws.{steps-keep}
-use Rattle.slots.specs.Slots.{ReadsFit}
+use Rattle.arrays.specs.Slots.{ReadsFit}
 use Rattle.splits.specs.Choice.{splitBy}
 use Rattle.search.specs.Nodes.{StateFit}
 use Rattle.search.proofs.Decisions.{bit-most, decision, fit-add, fit-steps, is-child, is-decided, is-falls, isnt-child, isnt-falls, term-small, variant-small}

@@ -4,7 +4,7 @@ use Prim.Native.Nat.{ℕ}
 use lib.ListN.{getD}
 use native.Mathlib.Omega.{arith}
 use borrow.Author.Needs.{needs}
-use Rattle.given.proofs.GivenTests.{constant-small}
+use Rattle.constants.proofs.ConstantTests.{constant-small}
 use Rattle.reasons.proofs.constant_class.Statement.{statement}
 use Rattle.reasons.proofs.constant_class.Tie as tie
 

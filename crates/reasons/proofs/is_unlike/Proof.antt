@@ -1,6 +1,6 @@
 -- `is_unlike` meets its contract. Assumes nothing.
 use borrow.Author.Needs.{needs}
-use Rattle.given.proofs.GivenTests.{same-bits}
+use Rattle.constants.proofs.ConstantTests.{same-bits}
 use Rattle.reasons.proofs.Tests.{no-other, one-class, other-class}
 use Rattle.reasons.proofs.is_unlike.Statement.{statement}
 use Rattle.reasons.proofs.is_unlike.Tie as tie

@@ -5,7 +5,7 @@ use Prim.Native.Nat.{ℕ, _-_, _≤_}
 use native.Mathlib.Omega.{arith}
 use borrow.Author.Needs.{needs}
 use Rattle.loops.specs.Lowest.{lowest}
-use Rattle.given.specs.Facts.{constantTerm}
+use Rattle.constants.specs.Constants.{constantTerm}
 use Rattle.reasons.specs.Reasons.{unlikeAt}
 use Rattle.reasons.proofs.Constants.{unlike-kept, unlike-lower, unlike-none, unlike-same}
 use Rattle.reasons.proofs.unlike_constants.Statement.{statement}

@@ -3,7 +3,7 @@ use native.Mathlib.Omega.{arith}
 use borrow.Author.Needs.{needs}
 use Rattle.guard.specs.Limits.{base}
 use Rattle.guard.proofs.Claims.{base-supported}
-use Rattle.search.proofs.TablesRead.{tables-read}
+use Rattle.roots.proofs.TablesRead.{tables-read}
 use Rattle.recordchecker.proofs.RootChecked.{file-refuses, file-takes}
 use Rattle.recordchecker.proofs.check.Statement.{statement}
 use Rattle.recordchecker.proofs.check.Tie as tie

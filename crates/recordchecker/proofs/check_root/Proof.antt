@@ -1,7 +1,7 @@
 -- `check_root` meets its contract. Assumes nothing.
 use mathlib.Core.Path.{refl}
 use Rattle.classes.specs.Held.{state}
-use Rattle.search.proofs.RootLaws.{arrays-fit, fit-root, literals-fit-here, shapes-fit-here, sorts-fit-here}
+use Rattle.roots.proofs.RootLaws.{arrays-fit, fit-root, literals-fit-here, shapes-fit-here, sorts-fit-here}
 use Rattle.recordchecker.proofs.RootChecked.{root-checked}
 use Rattle.recordchecker.proofs.check_root.Statement.{statement}
 use Rattle.recordchecker.proofs.check_root.Tie as tie

@@ -2,7 +2,7 @@
 use mathlib.Core.Path.{_∙_, refl, sym}
 use borrow.Author.Tests.{not-false, not-true}
 use Rattle.classes.specs.Held.{state}
-use Rattle.search.proofs.RootLaws.{arrays-fit, fit-root, found, is-found, literals-fit-here, nothing-found, shapes-fit-here, sorts-fit-here}
+use Rattle.roots.proofs.RootLaws.{arrays-fit, fit-root, found, is-found, literals-fit-here, nothing-found, shapes-fit-here, sorts-fit-here}
 use borrow.Author.Needs.{needs}
 use Rattle.rootsearch.proofs.search_guard.Statement.{statement}
 use Rattle.rootsearch.proofs.search_guard.Tie as tie

@@ -4,7 +4,7 @@ use native.Mathlib.Omega.{arith}
 use borrow.Author.Needs.{needs}
 use Rattle.reader.specs.Reader.{limitsOf}
 use Rattle.reader.proofs.ReaderLaws.{supported}
-use Rattle.search.proofs.TablesRead.{tables-read}
+use Rattle.roots.proofs.TablesRead.{tables-read}
 use Rattle.searchvectors.proofs.answer.Statement.{statement}
 use Rattle.searchvectors.proofs.answer.Tie as tie
 

@@ -6,9 +6,9 @@ use Rattle.siblings.proofs.field_entry.Statement.{statement}
 use Rattle.siblings.proofs.field_entry.Tie as tie
 use Rattle.siblings.proofs.field_entry.Reads as reads
 use Rattle.siblings.proofs.field_entry.Lts as lts
-use Rattle.siblings.proofs.field_term.Reads as field-term-reads
-use Rattle.siblings.proofs.place.Reads as place-reads
-use Rattle.siblings.proofs.wide.Reads as wide-reads
+use Rattle.fieldterms.proofs.field_term.Reads as field-term-reads
+use Rattle.fieldterms.proofs.place.Reads as place-reads
+use Rattle.fieldterms.proofs.wide.Reads as wide-reads
 
 element-copy-out-if1 : tie.Need-element-copy-out-if1
 element-copy-out-if1 c = search needs

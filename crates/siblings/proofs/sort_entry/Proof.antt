@@ -1,14 +1,15 @@
 -- `sort_entry` meets its contract. Assumes nothing.
-use Rattle.siblings.proofs.EntryLaws.{position-small, sort-of-sibling, sort-other, sort-past}
+use Rattle.fieldterms.proofs.FieldTermLaws.{position-small}
+use Rattle.siblings.proofs.EntryLaws.{sort-of-sibling, sort-other, sort-past}
 use native.Mathlib.Omega.{arith}
 use borrow.Author.Needs.{needs}
 use Rattle.siblings.proofs.sort_entry.Statement.{statement}
 use Rattle.siblings.proofs.sort_entry.Tie as tie
 use Rattle.siblings.proofs.sort_entry.Reads as reads
 use Rattle.siblings.proofs.sort_entry.Lts as lts
-use Rattle.siblings.proofs.place.Reads as place-reads
-use Rattle.siblings.proofs.sibling_position.Reads as sibling-position-reads
-use Rattle.siblings.proofs.wide.Reads as wide-reads
+use Rattle.fieldterms.proofs.place.Reads as place-reads
+use Rattle.fieldterms.proofs.sibling_position.Reads as sibling-position-reads
+use Rattle.fieldterms.proofs.wide.Reads as wide-reads
 
 element-copy-out-if1 : tie.Need-element-copy-out-if1
 element-copy-out-if1 c = search needs

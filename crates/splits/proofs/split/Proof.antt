@@ -5,7 +5,7 @@ use Prim.Native.Nat.{ℕ}
 use native.Mathlib.Omega.{arith}
 use borrow.Author.Needs.{needs}
 use Rattle.classes.specs.Held.{state}
-use Rattle.slots.specs.Slots.{readBit}
+use Rattle.arrays.specs.Slots.{readBit}
 use Rattle.splits.specs.Choice.{choiceOf, lowestIn}
 use Rattle.splits.proofs.Splits.{first-found, none-found, second-found}
 use Rattle.splits.proofs.split.Statement.{statement}

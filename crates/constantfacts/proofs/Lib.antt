@@ -1,0 +1,2 @@
+pub mod EqualTests
+pub mod EqualLaws

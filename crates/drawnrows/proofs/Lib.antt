@@ -1,0 +1,3 @@
+pub mod DrawnLaws
+pub mod FillLaws
+pub mod RowLaws

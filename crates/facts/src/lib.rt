@@ -1,0 +1,1 @@
+// Facts added to a state one after the other: see `proofs/Adding.antt`.

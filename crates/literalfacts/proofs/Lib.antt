@@ -1,0 +1,2 @@
+pub mod LiteralTests
+pub mod LiteralLaws

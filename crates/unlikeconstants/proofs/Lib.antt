@@ -1,0 +1,2 @@
+pub mod UnlikeTests
+pub mod UnlikeLaws
