@@ -1,4 +1,4 @@
--- The answer of `number_by_count`, from the byte count, and of `read_number` where the first byte is the last. Assumes nothing.
+-- The answer of `read_number`, from the byte count, and of `read_short` where the first byte is the last. Assumes nothing.
 use mathlib.Core.Path.{_≡_, ap, _∙_}
 use mathlib.Core.Bool.{Bool, true, false}
 use mathlib.Core.List.{List}

@@ -25,7 +25,7 @@ fn refuse(question: u32) -> Number
 }
 
 // The number at `at`, any place in the bytes or past them.
-fn number_by_count(bytes: &[u8], at: usize) -> Number
+pub fn read_number(bytes: &[u8], at: usize) -> Number
     ensures { λ r. ⌜ r ≡ numberAt (now (bytes .entry)) at ⌝ }
 {
     let count = leb128::byte_count(bytes, at);
@@ -45,8 +45,8 @@ fn number_by_count(bytes: &[u8], at: usize) -> Number
     }
 }
 
-// The same, with a quick look at the first byte: most numbers have no other.
-pub fn read_number(bytes: &[u8], at: usize) -> Number
+// The same, with a quick look at the first byte: a count, a name or a kind mostly has no other.
+fn read_short(bytes: &[u8], at: usize) -> Number
     ensures { λ r. ⌜ r ≡ numberAt (now (bytes .entry)) at ⌝ }
 {
     if at < bytes.len() {
@@ -59,7 +59,7 @@ pub fn read_number(bytes: &[u8], at: usize) -> Number
             };
         }
     }
-    number_by_count(bytes, at)
+    read_number(bytes, at)
 }
 
 // The number at `at`, refused by `question` unless it is below `limit`.
@@ -67,7 +67,7 @@ pub fn read_below(bytes: &[u8], at: usize, limit: u32, question: u32) -> Number
     requires { ⌜ 0 < question ⌝ }
     ensures { λ r. ⌜ r ≡ belowAt (now (bytes .entry)) at limit question ⌝ }
 {
-    let n = read_number(bytes, at);
+    let n = read_short(bytes, at);
     if n.refused == 0 && limit <= n.value {
         return refuse(question);
     }
