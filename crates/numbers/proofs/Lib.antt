@@ -1,5 +1,5 @@
 pub mod Answers
-pub mod Groups
+pub mod Counted
 pub mod Signed
 pub mod NumberLaws
 pub mod Tidy

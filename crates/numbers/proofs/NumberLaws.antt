@@ -3,24 +3,26 @@
 -- one and in the bytes; where it is refused, the parser refuses with the same question. The parsers `count`, `name` and
 -- `kind` are `below` with a limit and a question. Assumes nothing.
 use mathlib.Core.Path.{_≡_, refl, sym, ap, subst, _∙_}
-use mathlib.Core.Bool.{Bool, true, false, cond}
-use mathlib.Core.List.{List, [], _∷_}
-use Prim.Native.Nat.{ℕ, zero, suc, _+_, _-_, _*_, _≤_, _<_, _%_}
+use mathlib.Core.Bool.{Bool, true, false}
+use mathlib.Core.List.{List}
+use Prim.Native.Nat.{ℕ, suc, _+_, _-_, _≤_, _<_}
 use native.Mathlib.Omega.{arith}
-use lib.Dec.{leb, ltb, leb·suc-suc}
-use lib.ListN.{length, drop, length-drop}
+use lib.Dec.{eqb, leb, ltb, leb·suc-suc}
+use lib.ListN.{length, drop, take, length-drop}
 use lib.Seq.{drop-drop}
-use borrow.Author.Tests.{le-ltb, lt-ltb, ltb-true}
-use Rattle.guard.specs.Number.{Parsed, Parsed.accepted, Parsed.refused, Parser, _>>_, andThen, ask, return, unsigned}
+use borrow.Author.Tests.{eqb-false, eqb-true, le-ltb, lt-ltb, ltb-true}
+use Rattle.laws.proofs.Bools.{by-test}
+use Rattle.guard.specs.Number.{Parsed, Parsed.accepted, Parsed.refused, Parser, _>>_, andThen, ask, return, unsigned, valueOfGroups, wellFormed, width32}
 use Rattle.guard.specs.File.{count, kind, name}
 use Rattle.guard.proofs.Reading.{Reads, reads-unsigned}
+use Rattle.leb128.specs.Count.{Counted}
+use Rattle.leb128.proofs.Count.{counts, unsigned-counted, unsigned-short}
 use Rattle.numbers.specs.declared.Number.{Number}
-use Rattle.numbers.specs.Reader.{asNumber, below, belowAt, lastFits, numberAt, refusal}
-use Rattle.numbers.proofs.Groups.{lastByte, numberFrom, unsigned-is}
+use Rattle.numbers.specs.Reader.{asNumber, below, belowAt, numberAt, refusal}
 
 -- ---- one number of the definition
 
-other : {A : Type 0} {q v : ℕ} {rest : List ℕ} → Path (Parsed ℕ) (refused q) (accepted v rest) → A
+other : {A B : Type 0} {q : ℕ} {v : A} {rest : List ℕ} → Path (Parsed A) (refused q) (accepted v rest) → B
 other e = let z : _≡_ {A = ℕ} 0 1 = cc in absurd (omega arith)
 
 -- a parser leaves so many bytes of those it had, and has read at least one
@@ -30,40 +32,38 @@ record Suffix (bs rest : List ℕ) : Type 0 where
   there : used ≤ length bs
   is : rest ≡ drop used bs
 
-suffix : (k low weight : ℕ) (bs : List ℕ) (v : ℕ) (rest : List ℕ) → numberFrom k low weight bs ≡ accepted v rest → Suffix bs rest
-unfolding numberFrom lastByte
-suffix zero low weight bs v rest e = other e
-suffix (suc k) low weight [] v rest e = other e
-suffix (suc k) low weight (b ∷ bs) v rest e = pick (suffix k (low + b % 128 * weight) (weight * 128) bs v rest) (ltb b 128) e
+suffix : (bs : List ℕ) (v : ℕ) (rest : List ℕ) → unsigned bs ≡ accepted v rest → Suffix bs rest
+suffix bs v rest e = let (n, c) = counts bs in by-test (eqb n 0) (λ z. none n c (eqb-true n 0 z)) (λ z. some n c (eqb-false n 0 z))
   where
-    last : (t : Bool) → (ask 3 t >> return (low + b * weight)) bs ≡ accepted v rest → Suffix (b ∷ bs) rest
-    last true h = let r : rest ≡ bs = cc in record { used = 1; some = omega arith; there = omega arith; is = r }
-    last false h = other h
+    none : (n : ℕ) → Counted bs n → n ≡ 0 → Suffix bs rest
+    none n c z = other (sym (unsigned-short bs n c z) ∙ e)
 
-    pick : (numberFrom k (low + b % 128 * weight) (weight * 128) bs ≡ accepted v rest → Suffix bs rest)
-        → (t : Bool) → cond t (lastByte low weight b bs) (numberFrom k (low + b % 128 * weight) (weight * 128) bs) ≡ accepted v rest
-        → Suffix (b ∷ bs) rest
-    pick ih true h = last (lastFits low weight b) h
-    pick ih false h = let s = ih h in record { used = suc (s .used); some = omega arith; there = omega (arith, s .there); is = s .is }
+    left : (gs mid : List ℕ) (t : Bool) → (ask 3 t >> return (valueOfGroups gs)) mid ≡ accepted v rest → rest ≡ mid
+    left gs mid true h = cc
+    left gs mid false h = other h
 
-question : (k low weight : ℕ) (bs : List ℕ) (q : ℕ) → numberFrom k low weight bs ≡ refused q → 0 < q
-unfolding numberFrom lastByte
-question zero low weight bs q e = let z : 3 ≡ q = cc in omega arith
-question (suc k) low weight [] q e = let z : 2 ≡ q = cc in omega arith
-question (suc k) low weight (b ∷ bs) q e = pick (question k (low + b % 128 * weight) (weight * 128) bs q) (ltb b 128) e
-  where
-    last : (t : Bool) → (ask 3 t >> return (low + b * weight)) bs ≡ refused q → 0 < q
-    last true h = other (sym h)
-    last false h = let z : 3 ≡ q = cc in omega arith
-
-    pick : (numberFrom k (low + b % 128 * weight) (weight * 128) bs ≡ refused q → 0 < q)
-        → (t : Bool) → cond t (lastByte low weight b bs) (numberFrom k (low + b % 128 * weight) (weight * 128) bs) ≡ refused q → 0 < q
-    pick ih true h = last (lastFits low weight b) h
-    pick ih false h = ih h
+    some : (n : ℕ) → Counted bs n → ¬ (n ≡ 0) → Suffix bs rest
+    some n c z =
+        record {
+          used = n;
+          some = omega (arith, z);
+          there = c .within;
+          is = left (take n bs) (drop n bs) (wellFormed width32 (take n bs)) (sym (unsigned-counted bs n c z) ∙ e);
+        }
 
 -- a number is refused by a question, never by 0
 pub unsigned-question : (bs : List ℕ) (q : ℕ) → unsigned bs ≡ refused q → 0 < q
-unsigned-question bs q e = question 5 0 1 bs q (sym (unsigned-is bs) ∙ e)
+unsigned-question bs q e = let (n, c) = counts bs in by-test (eqb n 0) (λ z. none n c (eqb-true n 0 z)) (λ z. some n c (eqb-false n 0 z))
+  where
+    none : (n : ℕ) → Counted bs n → n ≡ 0 → 0 < q
+    none n c z = let two : _≡_ {A = Parsed ℕ} (refused 2) (refused q) = sym (unsigned-short bs n c z) ∙ e in let is : 2 ≡ q = cc in omega arith
+
+    asked : (gs mid : List ℕ) (t : Bool) → (ask 3 t >> return (valueOfGroups gs)) mid ≡ refused q → 0 < q
+    asked gs mid true h = other (sym h)
+    asked gs mid false h = let is : 3 ≡ q = cc in omega arith
+
+    some : (n : ℕ) → Counted bs n → ¬ (n ≡ 0) → 0 < q
+    some n c z = asked (take n bs) (drop n bs) (wellFormed width32 (take n bs)) (sym (unsigned-counted bs n c z) ∙ e)
 
 -- *Cursor law.* A number at `at` leaves the bytes from the next cursor on, past `at` and in the bytes.
 pub record Passed (bytes : List ℕ) (at next value : ℕ) (rest : List ℕ) : Type 0 where
@@ -76,7 +76,7 @@ pub cursor : (bytes : List ℕ) (at v : ℕ) (rest : List ℕ) → unsigned (dro
     → Passed bytes at (length bytes - length rest) v rest
 unfolding Reads
 cursor bytes at v rest e =
-    let s = suffix 5 0 1 (drop at bytes) v rest (sym (unsigned-is (drop at bytes)) ∙ e) in
+    let s = suffix (drop at bytes) v rest e in
     let r : rest ≡ drop (at + s .used) bytes = s .is ∙ drop-drop (s .used) at bytes in
     let l : length rest ≡ length bytes - (at + s .used) = ap length r ∙ length-drop (at + s .used) bytes in
     let d : length (drop at bytes) ≡ length bytes - at = length-drop at bytes in

@@ -1,9 +1,8 @@
 -- A number at a cursor, in terms of the parsers of the guard file. Assumes nothing: definitions.
 use mathlib.Core.Path.{_≡_}
-use mathlib.Core.Bool.{Bool, not, _&&_, _||_, cond}
 use mathlib.Core.List.{List}
-use Prim.Native.Nat.{ℕ, _+_, _-_, _*_, _≤_}
-use lib.Dec.{eqb, leb, ltb}
+use Prim.Native.Nat.{ℕ, _-_, _≤_}
+use lib.Dec.{ltb}
 use lib.ListN.{length, drop}
 use Rattle.guard.specs.Number.{Parsed, Parsed.accepted, Parsed.refused, Parser, _>>=_, _>>_, ask, return, unsigned}
 use Rattle.numbers.specs.declared.Number.{Number}
@@ -33,15 +32,6 @@ below limit q = do
 
 unfoldable pub belowAt : List ℕ → ℕ → ℕ → ℕ → Number
 belowAt bytes at limit q = asNumber bytes (below limit q (drop at bytes))
-
--- ---- the last byte
-
--- the number that `low` and a last byte make is at most 4,294,967,295, and a last byte of 00 stands only alone
-abbrev pub lastFits : ℕ → ℕ → ℕ → Bool
-lastFits low weight byte = leb (low + byte * weight) 4294967295 && (leb weight 1 || not (eqb byte 0))
-
-unfoldable pub lastGroup : ℕ → ℕ → ℕ → ℕ → Number
-lastGroup low weight byte next = cond (lastFits low weight byte) (found (low + byte * weight) next) (refusal 3)
 
 -- ---- answers of readers
 

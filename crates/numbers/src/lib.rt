@@ -2,9 +2,9 @@
 // bytes, each with seven bits of it, the low group first; bit 80 is set in all bytes but the last; it has
 // the fewest bytes, and is at most 4,294,967,295.
 ghost use mathlib.Core.Path.{_≡_};
-ghost use Prim.Native.Nat.{ℕ, _<_, _≤_};
+ghost use Prim.Native.Nat.{_<_};
 ghost use Rattle.guard.specs.Number.{foldSigned, unfoldSigned};
-ghost use Rattle.numbers.specs.Reader.{refusal, lastGroup, numberAt, belowAt};
+ghost use Rattle.numbers.specs.Reader.{refusal, numberAt, belowAt};
 
 // What a read found. `refused` is 0, or the question that refused, and then `value` and `at` are 0 too.
 // `at` is the cursor after the number.
@@ -24,19 +24,18 @@ fn refuse(question: u32) -> Number
     }
 }
 
-// The number that ends with `byte`, a group of weight `weight`; the groups below it make `low`. The fifth group,
-// the highest, has the weight 268,435,456.
-fn last_group(low: u64, weight: u64, byte: u64, next: usize) -> Number
-    requires { ⌜ (byte < 128) × (weight ≤ 268435456) × (low < weight) ⌝ }
-    ensures { λ r. ⌜ r ≡ lastGroup low weight byte next ⌝ }
+// The number at `at`, any place in the bytes or past them.
+pub fn read_number(bytes: &[u8], at: usize) -> Number
+    ensures { λ r. ⌜ r ≡ numberAt (now (bytes .entry)) at ⌝ }
 {
-    // A last byte of 00 adds nothing, so after other bytes the number does not have the fewest.
-    if byte == 0 && 1 < weight {
-        return refuse(3);
+    let count = leb128::byte_count(bytes, at);
+    if count == 0 {
+        return refuse(2);
     }
-    let value = low + byte * weight;
-    // Five groups have 35 bits.
-    if 4294967295 < value {
+    let next = at + count;
+    let number = &bytes[at..next];
+    let value = leb128::value_of(number);
+    if !leb128::well_formed(number, value) {
         return refuse(3);
     }
     Number {
@@ -46,29 +45,21 @@ fn last_group(low: u64, weight: u64, byte: u64, next: usize) -> Number
     }
 }
 
-// The number at `at`, any place in the bytes or past them.
-pub fn read_number(bytes: &[u8], at: usize) -> Number
+// The same, with a quick look at the first byte: a count, a name or a kind mostly has no other.
+fn read_short(bytes: &[u8], at: usize) -> Number
     ensures { λ r. ⌜ r ≡ numberAt (now (bytes .entry)) at ⌝ }
 {
-    let mut next = at;
-    let mut low: u64 = 0;
-    let mut weight: u64 = 1;
-    let mut read: u32 = 0;
-    while read < 5 {
-        if bytes.len() <= next {
-            return refuse(2);
+    if at < bytes.len() {
+        let first = bytes[at];
+        if first < 128 {
+            return Number {
+                refused: 0,
+                value: first as u32,
+                at: at + 1,
+            };
         }
-        let byte = bytes[next] as u64;
-        next += 1;
-        if byte < 128 {
-            return last_group(low, weight, byte, next);
-        }
-        low += byte % 128 * weight;
-        weight *= 128;
-        read += 1;
     }
-    // The fifth byte is the last, and has bit 80.
-    refuse(3)
+    read_number(bytes, at)
 }
 
 // The number at `at`, refused by `question` unless it is below `limit`.
@@ -76,7 +67,7 @@ pub fn read_below(bytes: &[u8], at: usize, limit: u32, question: u32) -> Number
     requires { ⌜ 0 < question ⌝ }
     ensures { λ r. ⌜ r ≡ belowAt (now (bytes .entry)) at limit question ⌝ }
 {
-    let n = read_number(bytes, at);
+    let n = read_short(bytes, at);
     if n.refused == 0 && limit <= n.value {
         return refuse(question);
     }

@@ -1,0 +1,3 @@
+pub mod Count
+pub mod Form
+pub mod Value
