@@ -2,7 +2,7 @@
 -- make the guard hold; 2, and no messages do; 3, and the search takes more nodes than the budget. Each follows from the
 -- contract. Assumes nothing.
 use mathlib.Core.Path.{_≡_, refl, ap, sym, subst, _∙_}
-use mathlib.Core.List.{List, [], _∷_, _++_}
+use mathlib.Core.List.{List, _++_}
 use Prim.Native.Nat.{ℕ, _<_}
 use native.Mathlib.Omega.{arith}
 use lib.IntN.{ℤ}

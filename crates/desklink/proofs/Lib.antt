@@ -1,2 +1,3 @@
+pub mod WrittenCode
 pub mod Linked
 pub mod Corollaries

@@ -14,7 +14,6 @@ use Rattle.refutations.specs.Record.{recordBytes}
 use Rattle.bytebuffer.specs.Puts.{filled}
 use Rattle.recordwriter.specs.declared.Written.{Written}
 
-
 -- whether they fit, and how many there are then
 abbrev pub writtenOf : List ℕ → ℕ → Written
 writtenOf bytes room = cond (leb (length bytes) room) (record { fits = true; many = length bytes }) (record { fits = false; many = 0 })
