@@ -11,8 +11,8 @@ use lib.ListN.{length}
 use borrow.Author.Tests.{le-leb, le-ltb, lt-ltb, ltb-false, ltb-true, ne-eqb}
 use Rattle.laws.specs.Lists.{last}
 use Rattle.laws.proofs.Bools.{and-both, or-right}
-use Rattle.guard.specs.Number.{Parsed.accepted, Width, andThen, groups, return, unsigned, unsignedOf, valueOfGroups, wellFormed, width32}
-use Rattle.encoding.specs.Encoding.{encoded, encodedOf, groupsOf}
+use Rattle.guard.specs.Number.{Parsed.accepted, Width, andThen, groups, return, unsigned, unsignedOf, valueOfGroups, valueWidth, wellFormed, width32}
+use Rattle.encoding.specs.Encoding.{encoded, encodedOf, encodedValue, groupsOf}
 
 -- a claim about the groups of a number, by its size
 by-size : (P : List ℕ → Type 0) (k n : ℕ) → (n < 128 → P (n ∷ [])) → (128 ≤ n → P ((128 + n % 128) ∷ groupsOf k (n / 128))) → P (groupsOf (suc k) n)
@@ -83,3 +83,13 @@ at-most-five n = groups-length 5 n
 pub one-byte : (n : ℕ) → n < 128 → encoded n ≡ n ∷ []
 unfolding encoded
 one-byte n h = rw (lt-ltb n 128 h) refl
+
+-- ---- values
+
+pub value-read-back : (n : ℕ) (bs : List ℕ) → n ≤ valueWidth .most → unsignedOf valueWidth (encodedValue n ++ bs) ≡ accepted n bs
+unfolding encodedValue
+value-read-back n bs h = read-back-of valueWidth (omega arith) n bs h
+
+pub value-one-at-least : (n : ℕ) → 1 ≤ length (encodedValue n)
+unfolding encodedValue
+value-one-at-least n = some-group 4 n

@@ -1,5 +1,5 @@
 -- A number that is read has the bytes that it is written in: there is one way to write it. Assumes nothing.
-use mathlib.Core.Path.{_≡_, refl, ap, ap₂, sym, _∙_}
+use mathlib.Core.Path.{_≡_, refl, ap, ap₂, sym, subst, _∙_}
 use mathlib.Core.Bool.{Bool, true, false, not}
 use mathlib.Core.List.{List, [], _∷_, _++_}
 use Prim.Native.Nat.{ℕ, zero, suc, _+_, _/_, _%_, _≤_, _<_}
@@ -10,8 +10,8 @@ use borrow.Author.Tests.{eqb-false, le-ltb, leb-true, lt-ltb, ltb-false, ltb-tru
 use Rattle.laws.specs.All.{All, All.more}
 use Rattle.laws.specs.Lists.{last}
 use Rattle.laws.proofs.Bools.{and-left, and-right, either, or-cases}
-use Rattle.guard.specs.Number.{Parsed, Parsed.accepted, Width, _>>=_, _>>_, ask, groups, return, unsigned, valueOfGroups, wellFormed, width32}
-use Rattle.encoding.specs.Encoding.{encoded, groupsOf}
+use Rattle.guard.specs.Number.{Parsed, Parsed.accepted, Width, _>>=_, _>>_, ask, groups, return, unsigned, unsignedOf, valueOfGroups, valueWidth, wellFormed, width32}
+use Rattle.encoding.specs.Encoding.{encoded, encodedOf, encodedValue, groupsOf}
 use Rattle.encoding.proofs.Parsers.{ask-inv, bind-inv, not-accepted}
 
 -- at most k groups as they are found: bit 80 in each but the last
@@ -57,12 +57,21 @@ well-formed-groups w (further {b = b} {gs = g ∷ gs} h s found) e =
     (either (λ q. absurd (omega (arith, leb-true (length (b ∷ g ∷ gs)) 1 q))) (λ q. eqb-false (last gs g) 0 (not-true _ q))
     (or-cases (leb (length (b ∷ g ∷ gs)) 1) (not (eqb (last gs g) 0)) (and-right (leb (valueOfGroups (b ∷ g ∷ gs)) (w .most)) _ (and-right (ltb (last gs g) 128) _ e)))) .1
 
-pub written-back : (bs : List ℕ) (n : ℕ) (rest : List ℕ) → All (λ b. b < 256) bs → unsigned bs ≡ accepted n rest → bs ≡ encoded n ++ rest
-unfolding encoded
-written-back bs n rest h e =
-    let (gs, mid, p, q) = bind-inv (groups 5) (λ gs. ask 3 (wellFormed width32 gs) >> return (valueOfGroups gs)) bs n rest e in
-    let (good, r) = ask-inv 3 (wellFormed width32 gs) (return (valueOfGroups gs)) mid n rest q in
-    let (found, split) = groups-found 5 bs gs mid h p in
+-- for a width of at least one byte
+pub written-back-of : (w : Width) (k : ℕ) → w .bytes ≡ suc k → (bs : List ℕ) (n : ℕ) (rest : List ℕ) → All (λ b. b < 256) bs → unsignedOf w bs ≡ accepted n rest → bs ≡ encodedOf w n ++ rest
+written-back-of w k e bs n rest h a =
+    let (gs, mid, p, q) = bind-inv (groups (w .bytes)) (λ gs. ask 3 (wellFormed w gs) >> return (valueOfGroups gs)) bs n rest a in
+    let (good, r) = ask-inv 3 (wellFormed w gs) (return (valueOfGroups gs)) mid n rest q in
+    let (found, split) = groups-found (w .bytes) bs gs mid h p in
     let value : valueOfGroups gs ≡ n = cc in
     let left : mid ≡ rest = cc in
-    split ∙ ap₂ (λ (xs ys : List ℕ). xs ++ ys) (sym (well-formed-groups width32 found good) ∙ ap (groupsOf 5) value) left
+    let groups-are : groupsOf (w .bytes) (valueOfGroups gs) ≡ gs = ap (λ (j : ℕ). groupsOf j (valueOfGroups gs)) e ∙ well-formed-groups w (subst (λ (j : ℕ). Groups j gs) e found) good in
+    split ∙ ap₂ (λ (xs ys : List ℕ). xs ++ ys) (sym groups-are ∙ ap (groupsOf (w .bytes)) value) left
+
+pub written-back : (bs : List ℕ) (n : ℕ) (rest : List ℕ) → All (λ b. b < 256) bs → unsigned bs ≡ accepted n rest → bs ≡ encoded n ++ rest
+unfolding encoded
+written-back bs n rest h e = written-back-of width32 4 refl bs n rest h e
+
+pub value-written-back : (bs : List ℕ) (n : ℕ) (rest : List ℕ) → All (λ b. b < 256) bs → unsignedOf valueWidth bs ≡ accepted n rest → bs ≡ encodedValue n ++ rest
+unfolding encodedValue
+value-written-back bs n rest h e = written-back-of valueWidth 4 refl bs n rest h e

@@ -3,7 +3,7 @@ use mathlib.Core.Bool.{cond}
 use mathlib.Core.List.{List, [], _∷_}
 use Prim.Native.Nat.{ℕ, zero, suc, _+_, _/_, _%_}
 use lib.Dec.{ltb}
-use Rattle.guard.specs.Number.{Width, width32}
+use Rattle.guard.specs.Number.{Width, valueWidth, width32}
 
 -- "A number is written in groups of seven bits, low group first; bit 80 is set in every byte but the last."; "uses the
 -- fewest bytes". At most so many bytes.
@@ -17,3 +17,7 @@ encodedOf w n = groupsOf (w .bytes) n
 -- "It has one to five bytes"
 unfoldable pub encoded : ℕ → List ℕ
 encoded n = encodedOf width32 n
+
+-- the value of a constant, folded
+unfoldable pub encodedValue : ℕ → List ℕ
+encodedValue n = encodedOf valueWidth n

@@ -11,17 +11,17 @@ use mir.Syntax.{w32}
 use mir.Val.{SFits}
 use Rattle.laws.specs.Lists.{concatMap}
 use Rattle.laws.proofs.Lists.{all-getD}
-use Rattle.guard.specs.Number.{foldSigned}
+use Rattle.guard.specs.Number.{foldSigned, width32}
 use Rattle.tables.proofs.Columns.{pad-get}
 use Rattle.tables.proofs.Lookups.{map-at}
-use Rattle.encoding.specs.Encoding.{encoded}
-use Rattle.serialize.specs.Tokens.{Fits, Token, Token.plain, Token.value, listed, unsignedOf}
+use Rattle.encoding.specs.Encoding.{encoded, encodedValue}
+use Rattle.serialize.specs.Tokens.{Fits, Token, Token.plain, Token.value, listed, tokenBytes, unsignedOf}
 use Rattle.serialize.proofs.Copying.{concatMap-append}
 use Rattle.bytebuffer.specs.declared.End.{End}
 use Rattle.bytebuffer.specs.Puts.{Puts}
 use Rattle.bytebuffer.proofs.PutLaws.{and-then, nothing, same-bytes, still-full}
 use Rattle.valuemarks.specs.Marks.{markOf, room}
-use Rattle.filewriter.specs.Writer.{Marked, NumberMarked, WrittenAs}
+use Rattle.filewriter.specs.Marking.{Marked, NumberMarked, WrittenAs}
 
 -- ---- one token
 
@@ -38,10 +38,20 @@ pub plain-listed : (k : Token) → ¬ (markOf k ≡ 1) → listed k ≡ pos (uns
 plain-listed (plain n) h = refl
 plain-listed (value z) h = absurd (h refl)
 
+pub plain-fits : (k : Token) → ¬ (markOf k ≡ 1) → Fits k → unsignedOf k ≤ width32 .most
+plain-fits (plain n) h f = f
+plain-fits (value z) h f = absurd (h refl)
+
+-- values have the bytes of any number
+pub token-encoded : (k : Token) → encoded (unsignedOf k) ≡ tokenBytes k
+unfolding encoded encodedValue
+token-encoded (plain n) = refl
+token-encoded (value z) = refl
+
 -- ---- a list and its marks
 
 abbrev pub bytes : List Token → List ℕ
-bytes ks = concatMap (λ k. encoded (unsignedOf k)) ks
+bytes ks = concatMap tokenBytes ks
 
 abbrev tokenAt : List Token → ℕ → Token
 tokenAt ks i = getD ks i (plain 0)
@@ -81,8 +91,8 @@ module _ {list : List ℤ} {marks : List ℕ} {ks : List Token} (m : Marked list
       one-more : Puts (bytes (take (suc i) ks)) out 0 r out″
       one-more =
           same-bytes (and-then p refl q)
-          (ap (λ (k : ℕ). bytes (take i ks) ++ encoded k) (written-is x ex n w) ∙ ap (λ (l : List ℕ). bytes (take i ks) ++ l) (sym (append-nil (encoded (unsignedOf (tokenAt ks i)))))
-          ∙ sym (concatMap-append (λ k. encoded (unsignedOf k)) (take i ks) (tokenAt ks i ∷ [])) ∙ ap bytes (sym (take-next ks i in-tokens)))
+          (ap (λ (l : List ℕ). bytes (take i ks) ++ l) (ap encoded (written-is x ex n w) ∙ token-encoded (tokenAt ks i) ∙ sym (append-nil (tokenBytes (tokenAt ks i))))
+          ∙ sym (concatMap-append tokenBytes (take i ks) (tokenAt ks i ∷ [])) ∙ ap bytes (sym (take-next ks i in-tokens)))
 
       pub next-puts : r .fits ≡ true → Puts (bytes (take (i + 1) ks)) out 0 (record { fits = true; at = r .at }) out″
       next-puts f =
@@ -92,7 +102,7 @@ module _ {list : List ℤ} {marks : List ℕ} {ks : List Token} (m : Marked list
       pub full-puts : r .fits ≡ false → Puts (bytes ks) out 0 r out″
       full-puts f =
           same-bytes (still-full one-more f (bytes (drop (suc i) ks)))
-          (sym (concatMap-append (λ k. encoded (unsignedOf k)) (take (suc i) ks) (drop (suc i) ks)) ∙ ap bytes (take-drop ks (suc i)))
+          (sym (concatMap-append tokenBytes (take (suc i) ks) (drop (suc i) ks)) ∙ ap bytes (take-drop ks (suc i)))
 
   pub all-put : (i : ℕ) → length list ≤ i → {out out′ : List ℕ} {r : End} → Puts (bytes (take i ks)) out 0 r out′ → Puts (bytes ks) out 0 r out′
   all-put i h p = same-bytes p (ap bytes (take-all i ks (omega (arith, as-long))))

@@ -9,7 +9,7 @@ use lib.ListN.{length, replicate, length-append, length-map}
 use Rattle.laws.specs.Lists.{concatMap}
 use Rattle.guard.specs.Guard.{Guard, Literal, Literal.equal, Literal.is, Literal.isnt, Literal.unequal, Row, Row.built, Row.constant, Row.field, Row.variable, typeOf}
 use Rattle.guard.specs.Limits.{base}
-use Rattle.guard.specs.Number.{Parsed, Parsed.accepted, Parsed.refused}
+use Rattle.guard.specs.Number.{Parsed, Parsed.accepted, Parsed.refused, foldSigned}
 use Rattle.guard.specs.Types.{Types}
 use Rattle.guard.proofs.Accepted.{accepted-length, accepted-well-formed}
 use Rattle.guard.proofs.Claims.{base-supported}
@@ -17,10 +17,9 @@ use Rattle.tables.specs.Layout.{literalTable, pad, rowKind, rowTable, rowVarian
 use Rattle.tables.proofs.AcceptedTotal.{accepted-total}
 use Rattle.reader.specs.declared.Tables.{Tables}
 use Rattle.reader.specs.Reader.{guardTables, noTables}
-use Rattle.encoding.specs.Encoding.{encoded}
-use Rattle.encoding.proofs.ReadBack.{one-at-least}
+use Rattle.encoding.proofs.ReadBack.{one-at-least, value-one-at-least}
 use Rattle.serialize.specs.NumberList.{listFile}
-use Rattle.serialize.specs.Tokens.{Token, bytesOf, guardTokens, listed, literalTokens, numbersOf, unsignedOf}
+use Rattle.serialize.specs.Tokens.{Token, Token.plain, Token.value, bytesOf, guardTokens, listed, literalTokens, numbersOf, tokenBytes}
 use Rattle.serialize.proofs.Theorems.{read-as-list, tokens-fit}
 use Rattle.bytebuffer.specs.declared.End.{End}
 use Rattle.bytebuffer.specs.Puts.{Puts}
@@ -29,7 +28,8 @@ use Rattle.listreader.specs.ListReader.{ReadsList, valueless, valuelessRow, val
 use Rattle.listreader.proofs.ListReaderLaws.{list-question}
 use Rattle.valuemarks.specs.Marks.{Listed, marksOf, room, untilLines}
 use Rattle.valuemarks.proofs.Midway.{all-length, lines}
-use Rattle.filewriter.specs.Writer.{Marked, answerTo, leftBy}
+use Rattle.filewriter.specs.Marking.{Marked}
+use Rattle.filewriter.specs.Writer.{answerTo, leftBy}
 use Rattle.filewriter.proofs.TokenLaws.{bytes}
 
 -- ---- refused lists
@@ -100,9 +100,13 @@ column-kept f h (r ∷ rs) = ap₂ (λ (x : ℕ) (xs : List ℕ). x ∷ xs) (h r
 
 -- ---- lengths
 
+some-byte : (k : Token) → 1 ≤ length (tokenBytes k)
+some-byte (plain n) = one-at-least n
+some-byte (value z) = value-one-at-least (foldSigned z)
+
 bytes-cover : (ks : List Token) → length ks ≤ length (bytes ks)
 bytes-cover [] = omega arith
-bytes-cover (k ∷ ks) = omega (arith, bytes-cover ks, one-at-least (unsignedOf k), length-append (encoded (unsignedOf k)) (bytes ks))
+bytes-cover (k ∷ ks) = omega (arith, bytes-cover ks, some-byte k, length-append (tokenBytes k) (bytes ks))
 
 lines-length : (ls : List Literal) → length (concatMap literalTokens ls) ≡ 3 * length ls
 lines-length [] = refl

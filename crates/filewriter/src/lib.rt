@@ -4,7 +4,8 @@ ghost use mathlib.Core.Path.{_≡_};
 ghost use lib.ListN.{length};
 ghost use Rattle.guard.specs.Limits.{base};
 ghost use Rattle.serialize.specs.NumberList.{listFile};
-ghost use Rattle.filewriter.specs.Writer.{HasTokens, NumberMarked, PutsTokens, WrittenAs, answerTo, leftBy};
+ghost use Rattle.filewriter.specs.Marking.{HasTokens, NumberMarked, PutsTokens, WrittenAs};
+ghost use Rattle.filewriter.specs.Writer.{answerTo, leftBy};
 
 // What a number of the list is written as. A value is folded.
 fn written_number(x: i64, mark: u8) -> u32

@@ -20,10 +20,10 @@ use Rattle.guard.specs.Grammar as grammar
 use Rattle.guard.specs.Guard.{Guard, Literal, Literal.equal, Literal.is, Literal.isnt, Literal.unequal, Row, Row.built, Row.constant, Row.field, Row.variable, noRow, rowAt, typeAt, typeOf}
 use Rattle.guard.specs.Limits.{Limits, Supported, fieldLimit, totalVariantLimit, variantLimit}
 use Rattle.guard.specs.Message.{Message}
-use Rattle.guard.specs.Number.{Parsed.accepted, _>>=_, _>>_, ask, return, times, unfoldSigned, unsigned, width32}
+use Rattle.guard.specs.Number.{Parsed.accepted, _>>=_, _>>_, ask, return, times, unfoldSigned, unsigned, unsignedOf, valueWidth, width32}
 use Rattle.guard.specs.Types.{Defaults, Types, Variant, allDefaults, defaultRounds, defaults, fieldsOf, firstDefault, infiniteFields, isNumber, isSome, nextDefault, variantsOf}
 use Rattle.guard.specs.WellFormed.{LiteralFits, RowFits, WellFormed}
-use Rattle.guard.proofs.Reading.{Ends, Reads, ends-bind, fold-unfold, reads-asked, reads-bind, reads-return, reads-times, reads-unsigned, reads-weaken}
+use Rattle.guard.proofs.Reading.{Ends, Reads, ends-bind, fold-unfold, reads-asked, reads-bind, reads-return, reads-times, reads-unsigned, reads-unsigned-of, reads-weaken}
 
 module _ {A : Type 0} where
   abbrev And : (A → Type 0) → ℕ → A → ℕ → Type 0
@@ -85,6 +85,10 @@ reads-types (suc left) many total small fit =
 
 -- ---- term rows
 
+-- the bytes of a row behind its kind, at most: a constant's type and value
+abbrev rowBytes : ℕ
+rowBytes = suc (valueWidth .bytes)
+
 module _ (ts : Types) (rs : List Row) (few : length rs ≤ 24) (names : length ts ≤ 6) (variants : (t : ℕ) → length (variantsOf ts t) ≤ variantLimit) (fields : (t v : ℕ) → length (fieldsOf ts t v) ≤ fieldLimit) where
   reads-parts : (fs : Variant) → Reads (parts ts rs fs) (λ ps u. All (λ p. p < length rs) ps × (map (typeAt ts rs) ps ≡ fs) × (u ≤ length fs))
   reads-parts [] = reads-return [] (λ ps u. All (λ p. p < length rs) ps × (map (typeAt ts rs) ps ≡ []) × (u ≤ 0)) (none, refl, omega arith)
@@ -104,31 +108,31 @@ module _ (ts : Types) (rs : List Row) (few : length rs ≤ 24) (names : length t
       (λ a u h. reads-asked 7 (not (isNumber ts (typeAt ts rs a))) _ (λ a z. ((a < length rs) × (isNumber ts (typeAt ts rs a) ≡ false)) × (u + z ≤ 1)) (λ e.
       reads-return a (λ a z. ((a < length rs) × (isNumber ts (typeAt ts rs a) ≡ false)) × (u + z ≤ 1)) ((h .0, not-true _ e), omega (arith, h .1))))
 
-  -- a constant takes the most: its type and five bytes of value
-  reads-row : (k : ℕ) → Reads (rowOf ts rs k) (And (RowFits ts rs (length rs)) 6)
+  -- a constant takes the most: its type and its value
+  reads-row : (k : ℕ) → Reads (rowOf ts rs k) (And (RowFits ts rs (length rs)) rowBytes)
   reads-row zero =
-      reads-bind (name (length ts)) _ (And (λ t. t < length ts) 1) (And (RowFits ts rs (length rs)) 6) (reads-name (length ts) (omega arith))
-      (λ t u h. reads-return (variable t) (λ r z. RowFits ts rs (length rs) r × (u + z ≤ 6)) (h .0, omega (arith, h .1)))
+      reads-bind (name (length ts)) _ (And (λ t. t < length ts) 1) (And (RowFits ts rs (length rs)) rowBytes) (reads-name (length ts) (omega arith))
+      (λ t u h. reads-return (variable t) (λ r z. RowFits ts rs (length rs) r × (u + z ≤ rowBytes)) (h .0, omega (arith, h .1)))
   reads-row (suc zero) =
-      reads-bind (name (length ts)) _ (And (λ t. t < length ts) 1) (And (RowFits ts rs (length rs)) 6) (reads-name (length ts) (omega arith))
-      (λ t u h. reads-asked 7 (isNumber ts t) _ (λ r z. RowFits ts rs (length rs) r × (u + z ≤ 6)) (λ e.
-      reads-bind unsigned _ (λ n w. (n ≤ width32 .most) × (w ≤ 5) × (n < 128 → w ≤ 1)) (λ r z. RowFits ts rs (length rs) r × (u + z ≤ 6)) reads-unsigned
-      (λ n w hn. reads-return (constant t (unfoldSigned n)) (λ r z. RowFits ts rs (length rs) r × (u + (w + z) ≤ 6))
-      ((h .0, e, subst (λ (x : ℕ). x ≤ width32 .most) (sym (fold-unfold n)) (hn .0)), omega (arith, h .1, hn .1)))))
+      reads-bind (name (length ts)) _ (And (λ t. t < length ts) 1) (And (RowFits ts rs (length rs)) rowBytes) (reads-name (length ts) (omega arith))
+      (λ t u h. reads-asked 7 (isNumber ts t) _ (λ r z. RowFits ts rs (length rs) r × (u + z ≤ rowBytes)) (λ e.
+      reads-bind (unsignedOf valueWidth) _ (λ n w. (n ≤ valueWidth .most) × (w ≤ valueWidth .bytes) × (n < 128 → w ≤ 1)) (λ r z. RowFits ts rs (length rs) r × (u + z ≤ rowBytes)) (reads-unsigned-of valueWidth)
+      (λ n w hn. reads-return (constant t (unfoldSigned n)) (λ r z. RowFits ts rs (length rs) r × (u + (w + z) ≤ rowBytes))
+      ((h .0, e, subst (λ (x : ℕ). x ≤ valueWidth .most) (sym (fold-unfold n)) (hn .0)), omega (arith, h .1, hn .1)))))
   reads-row (suc (suc zero)) =
-      reads-bind (name (length ts)) _ (And (λ t. t < length ts) 1) (And (RowFits ts rs (length rs)) 6) (reads-name (length ts) (omega arith))
-      (λ t u h. reads-asked 7 (not (isNumber ts t)) _ (λ r z. RowFits ts rs (length rs) r × (u + z ≤ 6)) (λ e.
-      reads-bind (name (length (variantsOf ts t))) _ (And (λ v. v < length (variantsOf ts t)) 1) (λ r z. RowFits ts rs (length rs) r × (u + z ≤ 6)) (reads-name (length (variantsOf ts t)) (omega (arith, variants t)))
-      (λ v w hv. reads-bind (parts ts rs (fieldsOf ts t v)) _ (λ ps x. All (λ p. p < length rs) ps × (map (typeAt ts rs) ps ≡ fieldsOf ts t v) × (x ≤ length (fieldsOf ts t v))) (λ r z. RowFits ts rs (length rs) r × (u + (w + z) ≤ 6))
+      reads-bind (name (length ts)) _ (And (λ t. t < length ts) 1) (And (RowFits ts rs (length rs)) rowBytes) (reads-name (length ts) (omega arith))
+      (λ t u h. reads-asked 7 (not (isNumber ts t)) _ (λ r z. RowFits ts rs (length rs) r × (u + z ≤ rowBytes)) (λ e.
+      reads-bind (name (length (variantsOf ts t))) _ (And (λ v. v < length (variantsOf ts t)) 1) (λ r z. RowFits ts rs (length rs) r × (u + z ≤ rowBytes)) (reads-name (length (variantsOf ts t)) (omega (arith, variants t)))
+      (λ v w hv. reads-bind (parts ts rs (fieldsOf ts t v)) _ (λ ps x. All (λ p. p < length rs) ps × (map (typeAt ts rs) ps ≡ fieldsOf ts t v) × (x ≤ length (fieldsOf ts t v))) (λ r z. RowFits ts rs (length rs) r × (u + (w + z) ≤ rowBytes))
       (reads-parts (fieldsOf ts t v))
-      (λ ps x hp. reads-return (built t v ps) (λ r z. RowFits ts rs (length rs) r × (u + (w + (x + z)) ≤ 6)) ((h .0, hv .0, hp .0, hp .1), omega (arith, h .1, hv .1, hp .2, fields t v))))))
+      (λ ps x hp. reads-return (built t v ps) (λ r z. RowFits ts rs (length rs) r × (u + (w + (x + z)) ≤ rowBytes)) ((h .0, hv .0, hp .0, hp .1), omega (arith, h .1, hv .1, hp .2, fields t v))))))
   reads-row (suc (suc (suc k))) =
-      reads-bind (variantTerm ts rs) _ (And (λ a. (a < length rs) × (isNumber ts (typeAt ts rs a) ≡ false)) 1) (And (RowFits ts rs (length rs)) 6) reads-term
-      (λ a u h. reads-bind (name (length (variantsOf ts (typeAt ts rs a)))) _ (And (λ v. v < length (variantsOf ts (typeAt ts rs a))) 1) (λ r z. RowFits ts rs (length rs) r × (u + z ≤ 6))
+      reads-bind (variantTerm ts rs) _ (And (λ a. (a < length rs) × (isNumber ts (typeAt ts rs a) ≡ false)) 1) (And (RowFits ts rs (length rs)) rowBytes) reads-term
+      (λ a u h. reads-bind (name (length (variantsOf ts (typeAt ts rs a)))) _ (And (λ v. v < length (variantsOf ts (typeAt ts rs a))) 1) (λ r z. RowFits ts rs (length rs) r × (u + z ≤ rowBytes))
       (reads-name (length (variantsOf ts (typeAt ts rs a))) (omega (arith, variants (typeAt ts rs a))))
-      (λ v w hv. reads-bind (name (length (fieldsOf ts (typeAt ts rs a) v))) _ (And (λ p. p < length (fieldsOf ts (typeAt ts rs a) v)) 1) (λ r z. RowFits ts rs (length rs) r × (u + (w + z) ≤ 6))
+      (λ v w hv. reads-bind (name (length (fieldsOf ts (typeAt ts rs a) v))) _ (And (λ p. p < length (fieldsOf ts (typeAt ts rs a) v)) 1) (λ r z. RowFits ts rs (length rs) r × (u + (w + z) ≤ rowBytes))
       (reads-name (length (fieldsOf ts (typeAt ts rs a) v)) (omega (arith, fields (typeAt ts rs a) v)))
-      (λ p x hp. reads-return (field (typeAt ts rs a) a v p) (λ r z. RowFits ts rs (length rs) r × (u + (w + (x + z)) ≤ 6)) ((h .0 .0, refl, hv .0, hp .0), omega (arith, h .1, hv .1, hp .1)))))
+      (λ p x hp. reads-return (field (typeAt ts rs a) a v p) (λ r z. RowFits ts rs (length rs) r × (u + (w + (x + z)) ≤ rowBytes)) ((h .0 .0, refl, hv .0, hp .0), omega (arith, h .1, hv .1, hp .1)))))
 
   -- ---- literals
 
@@ -190,17 +194,17 @@ module _ (ts : Types) (rs : List Row) (r : Row) where
 
 module _ (ts : Types) (names : length ts ≤ 6) (variants : (t : ℕ) → length (variantsOf ts t) ≤ variantLimit) (fields : (t v : ℕ) → length (fieldsOf ts t v) ≤ fieldLimit) where
   reads-rows : (left : ℕ) (rs : List Row) → left + length rs ≤ 24 → RowsFit ts rs
-      → Reads (rows left ts rs) (λ xs u. (length xs ≡ left + length rs) × RowsFit ts xs × (u ≤ 7 * left))
-  reads-rows zero rs small g = reads-return rs (λ xs u. (length xs ≡ 0 + length rs) × RowsFit ts xs × (u ≤ 7 * 0)) (omega arith, g, omega arith)
+      → Reads (rows left ts rs) (λ xs u. (length xs ≡ left + length rs) × RowsFit ts xs × (u ≤ suc rowBytes * left))
+  reads-rows zero rs small g = reads-return rs (λ xs u. (length xs ≡ 0 + length rs) × RowsFit ts xs × (u ≤ suc rowBytes * 0)) (omega arith, g, omega arith)
   reads-rows (suc left) rs small g =
       reads-bind kind _ (And (λ n. n < 4) 1) (Good (λ z. z)) reads-kind
-      (λ k u hk. reads-bind (rowOf ts rs k) _ (And (RowFits ts rs (length rs)) 6) (Good (λ z. u + z)) (reads-row ts rs (omega arith) names variants fields k)
-      (λ r w hr. reads-weaken (rows left ts (rs ++ (r ∷ []))) (λ xs x. (length xs ≡ left + length (rs ++ (r ∷ []))) × RowsFit ts xs × (x ≤ 7 * left)) (Good (λ z. u + (w + z)))
+      (λ k u hk. reads-bind (rowOf ts rs k) _ (And (RowFits ts rs (length rs)) rowBytes) (Good (λ z. u + z)) (reads-row ts rs (omega arith) names variants fields k)
+      (λ r w hr. reads-weaken (rows left ts (rs ++ (r ∷ []))) (λ xs x. (length xs ≡ left + length (rs ++ (r ∷ []))) × RowsFit ts xs × (x ≤ suc rowBytes * left)) (Good (λ z. u + (w + z)))
       (reads-rows left (rs ++ (r ∷ [])) (omega (arith, length-append rs (r ∷ []))) (fit-more ts rs r g (hr .0)))
       (λ xs x h. (omega (arith, h .0, length-append rs (r ∷ [])), h .1, omega (arith, hk .1, hr .1, h .2)))))
     where
       Good : (ℕ → ℕ) → List Row → ℕ → Type 0
-      Good bytes xs z = (length xs ≡ suc left + length rs) × RowsFit ts xs × (bytes z ≤ 7 * suc left)
+      Good bytes xs z = (length xs ≡ suc left + length rs) × RowsFit ts xs × (bytes z ≤ suc rowBytes * suc left)
 
 -- ---- question 8
 
@@ -226,9 +230,9 @@ variants-at many [] none v = (omega arith, none)
 variants-at many (x ∷ xs) (more a bs) zero = a
 variants-at many (x ∷ xs) (more a bs) (suc v) = variants-at many xs bs v
 
--- T and N and L; a byte for each type; four for each variant, seven for each row, three for each line
+-- T and N and L; a byte for each type; four for each variant, those of a constant for each row, three for each line
 abbrev pub longestFile : Limits → ℕ
-longestFile limits = 3 + limits .types + 4 * totalVariantLimit + 7 * limits .terms + 3 * limits .lines
+longestFile limits = 3 + limits .types + 4 * totalVariantLimit + suc rowBytes * limits .terms + 3 * limits .lines
 
 reads-ended : Reads ended (λ x u. u ≡ 0)
 unfolding Reads
@@ -245,7 +249,7 @@ reads-file limits sup =
     let vf : (t v : ℕ) → VariantFits many (fieldsOf ts t v) = λ t v. variants-at many (variantsOf ts t) (tf t .1) v in
     let few : length ts ≤ 6 = omega (arith, ht .0, hm .0, sup .types) in
     reads-bind (count (limits .terms)) _ (And (λ n. n ≤ limits .terms) 1) (Good (λ z. b1 + (b2 + z))) (reads-count (limits .terms) (omega (arith, sup .terms)))
-    (λ n b3 hn. reads-bind (rows n ts []) _ (λ xs u. (length xs ≡ n + 0) × RowsFit ts xs × (u ≤ 7 * n)) (Good (λ z. b1 + (b2 + (b3 + z))))
+    (λ n b3 hn. reads-bind (rows n ts []) _ (λ xs u. (length xs ≡ n + 0) × RowsFit ts xs × (u ≤ suc rowBytes * n)) (Good (λ z. b1 + (b2 + (b3 + z))))
     (reads-rows ts few (λ t. tf t .0) (λ t v. vf t v .0) n [] (omega (arith, hn .0, sup .terms)) (λ i h. absurd (omega arith)))
     (λ rs b4 hr. reads-bind (count (limits .lines)) _ (And (λ n. n ≤ limits .lines) 1) (Good (λ z. b1 + (b2 + (b3 + (b4 + z))))) (reads-count (limits .lines) (omega (arith, sup .lines)))
     (λ l b5 hl. reads-bind (times l (literal ts rs)) _ (λ ls u. (length ls ≡ l) × All (LiteralFits ts rs) ls × (u ≤ l * 3)) (Good (λ z. b1 + (b2 + (b3 + (b4 + (b5 + z))))))
@@ -300,7 +304,7 @@ module _ (ts : Types) (few : length ts ≤ 6) (variants : (t : ℕ) → length (
   reads-counted : Reads (count limit >>= λ n. rows n ts []) (λ rs u. (length rs ≤ limit) × RowsFit ts rs)
   reads-counted =
       reads-bind (count limit) _ (And (λ n. n ≤ limit) 1) (λ rs u. (length rs ≤ limit) × RowsFit ts rs) (reads-count limit (omega arith))
-      (λ n b hn. reads-weaken (rows n ts []) (λ xs u. (length xs ≡ n + 0) × RowsFit ts xs × (u ≤ 7 * n)) (λ rs u. (length rs ≤ limit) × RowsFit ts rs)
+      (λ n b hn. reads-weaken (rows n ts []) (λ xs u. (length xs ≡ n + 0) × RowsFit ts xs × (u ≤ suc rowBytes * n)) (λ rs u. (length rs ≤ limit) × RowsFit ts rs)
       (reads-rows ts few variants fields n [] (omega (arith, hn .0)) (λ i h. absurd (omega arith))) (λ xs x h. (omega (arith, h .0, hn .0), h .1)))
 
   pub accepted-rows : (bs : List ℕ) (rs : List Row) (rest : List ℕ) → (count limit >>= λ n. rows n ts []) bs ≡ accepted rs rest → (length rs ≤ limit) × RowsFit ts rs

@@ -13,7 +13,7 @@ use lib.IntN.{ℤ, pos, negsuc}
 use Rattle.laws.specs.All.{All, All.more, All.none}
 use Rattle.laws.specs.Lists.{last}
 use Rattle.laws.proofs.Bools.{and-left, and-right, or-cases}
-use Rattle.guard.specs.Number.{Parsed, Parsed.accepted, Parsed.refused, Parser, Width, _>>=_, _>>_, andThen, ask, foldSigned, groups, return, times, unfoldSigned, unsigned, valueOfGroups, wellFormed, width32}
+use Rattle.guard.specs.Number.{Parsed, Parsed.accepted, Parsed.refused, Parser, Width, _>>=_, _>>_, andThen, ask, foldSigned, groups, return, times, unfoldSigned, unsigned, unsignedOf, valueOfGroups, wellFormed, width32}
 
 not-accepted : {A : Type 0} (q : ℕ) (a : A) (rest : List ℕ) → Path (Parsed A) (refused q) (accepted a rest) → ⊥
 not-accepted q a rest e = let z : _≡_ {A = ℕ} 0 1 = cc in omega arith
@@ -143,9 +143,12 @@ reads-groups (suc k) = step (reads-groups k)
             (1, omega (arith, ap length r), (omega (arith, ap length g), omega arith))
         pick false q = let (u, l, h) = longer bs gs rest q in (suc u, omega (arith, l), (h .0, omega (arith, h .1)))
 
+pub reads-unsigned-of : (w : Width) → Reads (unsignedOf w) (λ n u. (n ≤ w .most) × (u ≤ w .bytes) × (n < 128 → u ≤ 1))
+reads-unsigned-of w =
+    reads-bind (groups (w .bytes)) _ (λ gs u. (length gs ≡ u) × (u ≤ w .bytes)) (λ n u. (n ≤ w .most) × (u ≤ w .bytes) × (n < 128 → u ≤ 1)) (reads-groups (w .bytes))
+    (λ gs u h. reads-asked 3 (wellFormed w gs) _ (λ n v. (n ≤ w .most) × (u + v ≤ w .bytes) × (n < 128 → u + v ≤ 1))
+    (λ e. reads-return (valueOfGroups gs) (λ n v. (n ≤ w .most) × (u + v ≤ w .bytes) × (n < 128 → u + v ≤ 1))
+    (leb-true _ _ (and-left (leb (valueOfGroups gs) (w .most)) _ (and-right (ltb (last gs 0) 128) _ e)), omega (arith, h .1), λ l. omega (arith, one-byte w gs e l, h .0))))
+
 pub reads-unsigned : Reads unsigned (λ n u. (n ≤ width32 .most) × (u ≤ 5) × (n < 128 → u ≤ 1))
-reads-unsigned =
-    reads-bind (groups 5) _ (λ gs u. (length gs ≡ u) × (u ≤ 5)) (λ n u. (n ≤ width32 .most) × (u ≤ 5) × (n < 128 → u ≤ 1)) (reads-groups 5)
-    (λ gs u h. reads-asked 3 (wellFormed width32 gs) _ (λ n w. (n ≤ width32 .most) × (u + w ≤ 5) × (n < 128 → u + w ≤ 1))
-    (λ e. reads-return (valueOfGroups gs) (λ n w. (n ≤ width32 .most) × (u + w ≤ 5) × (n < 128 → u + w ≤ 1))
-    (leb-true _ _ (and-left (leb (valueOfGroups gs) (width32 .most)) _ (and-right (ltb (last gs 0) 128) _ e)), omega (arith, h .1), λ l. omega (arith, one-byte width32 gs e l, h .0))))
+reads-unsigned = reads-unsigned-of width32

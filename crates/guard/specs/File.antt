@@ -4,13 +4,13 @@ use Prim.Native.Nat.{ℕ}
 use Rattle.guard.specs.Limits.{Limits}
 use Rattle.guard.specs.Types.{Types, Variant}
 use Rattle.guard.specs.Guard.{Guard, Literal, Row}
-use Rattle.guard.specs.Number.{Parser, unsigned}
+use Rattle.guard.specs.Number.{Parser, unsigned, unsignedOf, valueWidth}
 use Rattle.guard.specs.Grammar.{Source, fileOf}
 use Rattle.guard.specs.Grammar as grammar
 
 -- "A number is written in groups of seven bits, low group first", and so is a constant's value
 abbrev pub bytes : Source
-bytes = record { number = unsigned; folded = unsigned }
+bytes = record { number = unsigned; folded = unsignedOf valueWidth }
 
 abbrev pub count : ℕ → Parser ℕ
 count = grammar.count bytes

@@ -85,6 +85,10 @@ unsigned = unsignedOf width32
 
 -- ---- signed values
 
+-- how long the value of a constant may be, and how large, as it is written
+abbrev pub valueWidth : Width
+valueWidth = width32
+
 -- "A signed value v from −2,147,483,648 to 2,147,483,647 is written as 2 × v when v is 0 or more and as −2 × v − 1
 -- when it is negative." `negsuc n` is −1 − n.
 abbrev pub foldSigned : ℤ → ℕ

@@ -10,12 +10,12 @@ use Rattle.guard.specs.Limits.{Limits, variantLimit, fieldLimit}
 use Rattle.guard.specs.Message.{Message}
 use Rattle.guard.specs.Types.{Types, variantsOf, fieldsOf, isNumber, defaults, infiniteFields}
 use Rattle.guard.specs.Guard.{Row, Row.variable, Row.constant, Row.built, Row.field, Literal, Literal.equal, Literal.unequal, Literal.is, Literal.isnt, Guard, rowAt, typeAt}
-use Rattle.guard.specs.Number.{foldSigned, width32}
+use Rattle.guard.specs.Number.{foldSigned, valueWidth}
 
 -- row i after the rows before it: questions 5 and 7, and the range of a signed value
 abbrev pub RowFits : Types → List Row → ℕ → Row → Type 0
 RowFits ts rs i (variable t) = t < length ts
-RowFits ts rs i (constant t z) = (t < length ts) × (isNumber ts t ≡ true) × (foldSigned z ≤ width32 .most)
+RowFits ts rs i (constant t z) = (t < length ts) × (isNumber ts t ≡ true) × (foldSigned z ≤ valueWidth .most)
 RowFits ts rs i (built t v ps) = (t < length ts) × (v < length (variantsOf ts t)) × All (λ p. p < i) ps × (map (typeAt ts rs) ps ≡ fieldsOf ts t v)
 RowFits ts rs i (field t a v p) = (a < i) × (typeAt ts rs a ≡ t) × (v < length (variantsOf ts t)) × (p < length (fieldsOf ts t v))
 

@@ -12,7 +12,7 @@ use lib.ListN.{length, getD, set, take, drop, length-set, drop-of-length-le}
 use lib.Seq.{append-snoc, drop-cons, take-suc-set}
 use lib.Signed.{ltZ}
 use borrow.Author.Tests.{le-leb, lt-leb, ltb-false, ltb-true}
-use Rattle.guard.specs.Number.{foldSigned, width32}
+use Rattle.guard.specs.Number.{foldSigned, valueWidth}
 use Rattle.guard.proofs.Reading.{unfold-fold}
 use Rattle.serialize.specs.NumberList.{unsignedBy}
 use Rattle.listreader.specs.Plain.{largest, plainByte, plainOf, room, wide, wideIn}
@@ -22,15 +22,15 @@ use Rattle.listreader.specs.Written.{Written}
 
 pub wide-below : (x : ℤ) → ltZ x (negsuc 2147483647) ≡ true → ltZ x (negsuc 2147483647) ≡ wide (foldSigned x)
 wide-below (pos n) e = absurd (false≢true e)
-wide-below (negsuc n) e = e ∙ sym (ap not (lt-leb (2 * n + 1) (width32 .most) (omega (arith, ltb-true 2147483647 n e))))
+wide-below (negsuc n) e = e ∙ sym (ap not (lt-leb (2 * n + 1) (valueWidth .most) (omega (arith, ltb-true 2147483647 n e))))
 
 pub wide-above : (x : ℤ) → ltZ x (negsuc 2147483647) ≡ false → ltZ (pos 2147483647) x ≡ wide (foldSigned x)
 wide-above (pos n) e = go (ltb 2147483647 n) refl
   where
-    go : (b : Bool) → ltb 2147483647 n ≡ b → ltb 2147483647 n ≡ not (leb (2 * n) (width32 .most))
-    go true h = h ∙ sym (ap not (lt-leb (2 * n) (width32 .most) (omega (arith, ltb-true 2147483647 n h))))
-    go false h = h ∙ sym (ap not (le-leb (2 * n) (width32 .most) (omega (arith, ltb-false 2147483647 n h))))
-wide-above (negsuc n) e = sym (ap not (le-leb (2 * n + 1) (width32 .most) (omega (arith, ltb-false 2147483647 n e))))
+    go : (b : Bool) → ltb 2147483647 n ≡ b → ltb 2147483647 n ≡ not (leb (2 * n) (valueWidth .most))
+    go true h = h ∙ sym (ap not (lt-leb (2 * n) (valueWidth .most) (omega (arith, ltb-true 2147483647 n h))))
+    go false h = h ∙ sym (ap not (le-leb (2 * n) (valueWidth .most) (omega (arith, ltb-false 2147483647 n h))))
+wide-above (negsuc n) e = sym (ap not (le-leb (2 * n + 1) (valueWidth .most) (omega (arith, ltb-false 2147483647 n e))))
 
 -- ---- a plain byte
 

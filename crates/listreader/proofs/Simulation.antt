@@ -9,7 +9,7 @@ use lib.Dec.{leb, eqb}
 use lib.IntN.{ℤ, pos, negsuc}
 use borrow.Author.Tests.{le-leb, ne-eqb}
 use Rattle.guard.specs.Grammar.{ended}
-use Rattle.guard.specs.Number.{Parsed, Parsed.accepted, Parsed.refused, Parser, _>>=_, _>>_, andThen, ask, foldSigned, return, times, unfoldSigned, unsigned, width32}
+use Rattle.guard.specs.Number.{Parsed, Parsed.accepted, Parsed.refused, Parser, _>>=_, _>>_, andThen, ask, foldSigned, return, times, unfoldSigned, unsigned, valueWidth}
 use Rattle.guard.proofs.Reading.{fold-unfold}
 use Rattle.encoding.proofs.ReadBack.{one-byte, read-back}
 use Rattle.serialize.specs.NumberList.{numberList, unsignedBy}
@@ -59,9 +59,9 @@ plain-read w bs = ap (λ (xs : List ℕ). unsigned (xs ++ bs)) (sym (one-byte (p
 
 -- a small number is not wide
 narrow : (w : ℕ) → unsignedBy (unfoldSigned w) < largest → wide w ≡ false
-narrow w l = ap not (le-leb w (width32 .most) (omega (arith, by (unfoldSigned w) l, fold-unfold w)))
+narrow w l = ap not (le-leb w (valueWidth .most) (omega (arith, by (unfoldSigned w) l, fold-unfold w)))
   where
-    by : (z : ℤ) → unsignedBy z < largest → foldSigned z ≤ width32 .most
+    by : (z : ℤ) → unsignedBy z < largest → foldSigned z ≤ valueWidth .most
     by (pos n) h = omega arith
     by (negsuc n) h = absurd (omega arith)
 
@@ -185,7 +185,7 @@ pub sim-folded : Sim true 1 (numberList .folded) unsigned (λ a b. Unit {0})
 unfolding Sim
 sim-folded ws zero m h = absurd (omega arith)
 sim-folded [] (suc n) m h = (refl, omega arith)
-sim-folded (w ∷ ws) (suc n) m h = rw (plain-read w (cond (wide w) [] (plainOf n ws))) (by (leb w (width32 .most)))
+sim-folded (w ∷ ws) (suc n) m h = rw (plain-read w (cond (wide w) [] (plainOf n ws))) (by (leb w (valueWidth .most)))
   where
     by : (x : Bool) → Agree true m (cond (not x) true (wideIn n ws)) (λ (a b : ℕ). Unit {0}) ((ask 3 x >> return w) ws) (accepted (plainByte w) (cond (not x) [] (plainOf n ws)))
     by true = (n, refl, omega arith, refl, tt)

@@ -5,7 +5,7 @@ use mathlib.Core.List.{List, [], _∷_}
 use Prim.Native.Nat.{ℕ, zero, suc, _+_, _*_, min}
 use lib.Dec.{leb}
 use Rattle.guard.specs.Limits.{Limits, totalVariantLimit}
-use Rattle.guard.specs.Number.{unfoldSigned, width32}
+use Rattle.guard.specs.Number.{unfoldSigned, valueWidth}
 use Rattle.serialize.specs.NumberList.{unsignedBy}
 
 -- beyond every count, name and kind, and the largest number that has a byte to itself
@@ -18,7 +18,7 @@ plainByte w = min (unsignedBy (unfoldSigned w)) largest
 
 -- "a constant beyond 32 bits"
 abbrev pub wide : ℕ → Bool
-wide w = not (leb w (width32 .most))
+wide w = not (leb w (valueWidth .most))
 
 -- Of so many numbers, the plain bytes: they stop after the first wide one. Read as a value, it leaves the reader at the end.
 abbrev pub plainOf : ℕ → List ℕ → List ℕ

@@ -9,7 +9,7 @@ use Rattle.laws.specs.All.{All, All.more, All.none}
 use Rattle.laws.specs.Lists.{concatMap}
 use Rattle.laws.proofs.Lists.{all-append}
 use Rattle.guard.specs.Grammar.{Source}
-use Rattle.guard.specs.Number.{Parsed.accepted, Parser, _>>=_, _>>_, andThen, ask, return, times, unfoldSigned, width32}
+use Rattle.guard.specs.Number.{Parsed.accepted, Parser, _>>=_, _>>_, andThen, ask, return, times, unfoldSigned, valueWidth, width32}
 use Rattle.guard.proofs.Reading.{fold-unfold}
 use Rattle.encoding.proofs.Parsers.{ask-inv, bind-inv}
 use Rattle.serialize.specs.Tokens.{Fits, Token, Token.plain, Token.value}
@@ -18,16 +18,16 @@ pub concatMap-append : {A B : Type 0} (f : A → List B) (xs ys : List A) → co
 concatMap-append f [] ys = refl
 concatMap-append f (x ∷ xs) ys = ap (λ (l : List _). f x ++ l) (concatMap-append f xs ys) ∙ sym (append-assoc (f x) (concatMap f xs) (concatMap f ys))
 
--- A source of numbers, and a way to write numbers for it: those of 32 bits are read back, and from nothing else that has the property.
+-- A source of numbers, and a way to write numbers for it: those that fit are read back, and from nothing else that has the property.
 pub record Form : Type 1 where
   pub src : Source
   pub write : Token → List ℕ
   pub Good : ℕ → Type 0
   pub number-is : (bs : List ℕ) (n : ℕ) (rest : List ℕ) → All Good bs → src .number bs ≡ accepted n rest → n ≤ width32 .most → (bs ≡ write (plain n) ++ rest) × All Good rest
   pub folded-is : (bs : List ℕ) (n : ℕ) (rest : List ℕ) → All Good bs → src .folded bs ≡ accepted n rest
-      → (n ≤ width32 .most) × (bs ≡ write (value (unfoldSigned n)) ++ rest) × All Good rest
+      → (n ≤ valueWidth .most) × (bs ≡ write (value (unfoldSigned n)) ++ rest) × All Good rest
   pub number-back : (n : ℕ) (more : List ℕ) → n ≤ width32 .most → src .number (write (plain n) ++ more) ≡ accepted n more
-  pub folded-back : (n : ℕ) (more : List ℕ) → n ≤ width32 .most → src .folded (write (value (unfoldSigned n)) ++ more) ≡ accepted n more
+  pub folded-back : (n : ℕ) (more : List ℕ) → n ≤ valueWidth .most → src .folded (write (value (unfoldSigned n)) ++ more) ≡ accepted n more
 
 -- two forms, and what may follow in the second
 pub record Pair : Type 1 where
@@ -115,7 +115,7 @@ module _ (c : Pair) where
       let (small, same, left) = c .one .folded-is bs n rest good e in (
         value (unfoldSigned n) ∷ [],
         refl,
-        more (subst (λ (x : ℕ). x ≤ width32 .most) (sym (fold-unfold n)) small) none,
+        more (subst (λ (x : ℕ). x ≤ valueWidth .most) (sym (fold-unfold n)) small) none,
         same ∙ ap (λ (l : List ℕ). l ++ rest) (sym (append-nil (write (value (unfoldSigned n))))),
         left,
         λ more follows. ap (λ (l : List ℕ). c .other .src .folded (l ++ more)) (append-nil (write′ (value (unfoldSigned n)))) ∙ c .other .folded-back n more small,

@@ -13,36 +13,36 @@ use Rattle.guard.specs.File.{bytes, file}
 use Rattle.guard.specs.Grammar.{fileOf}
 use Rattle.guard.specs.Guard.{Guard}
 use Rattle.guard.specs.Limits.{Limits, Supported}
-use Rattle.guard.specs.Number.{Parsed.accepted, foldSigned, unfoldSigned, unsigned, width32, return}
+use Rattle.guard.specs.Number.{Parsed.accepted, foldSigned, return, unfoldSigned, unsignedOf, valueWidth, width32}
 use Rattle.guard.proofs.Accepted.{source-ended}
-use Rattle.guard.proofs.Reading.{Ends, Reads, fold-unfold, reads-unsigned, unfold-fold}
-use Rattle.encoding.specs.Encoding.{encoded}
+use Rattle.guard.proofs.Reading.{Ends, Reads, fold-unfold, reads-unsigned-of, unfold-fold}
+use Rattle.encoding.specs.Encoding.{encoded, encodedValue}
 use Rattle.encoding.proofs.Parsers.{ask-inv, not-accepted}
-use Rattle.encoding.proofs.ReadBack.{read-back}
-use Rattle.encoding.proofs.WrittenBack.{written-back}
+use Rattle.encoding.proofs.ReadBack.{read-back, value-read-back}
+use Rattle.encoding.proofs.WrittenBack.{value-written-back, written-back}
 use Rattle.serialize.specs.NumberList.{fits, listFile, numberList, unsignedBy}
-use Rattle.serialize.specs.Tokens.{Fits, Token, bytesOf, guardTokens, listed, numbersOf, unsignedOf}
+use Rattle.serialize.specs.Tokens.{Fits, Token, bytesOf, guardTokens, listed, numbersOf, tokenBytes}
 use Rattle.serialize.proofs.Copying.{Copies, Form}
 use Rattle.serialize.proofs.CopiedFile.{copies-file}
 
 -- ---- bytes
 
-at-most : (bs : List ℕ) (n : ℕ) (rest : List ℕ) → unsigned bs ≡ accepted n rest → n ≤ width32 .most
+at-most : (bs : List ℕ) (n : ℕ) (rest : List ℕ) → unsignedOf valueWidth bs ≡ accepted n rest → n ≤ valueWidth .most
 unfolding Reads
-at-most bs n rest e = let (u, l, h) = reads-unsigned bs n rest e in h .0
+at-most bs n rest e = let (u, l, h) = reads-unsigned-of valueWidth bs n rest e in h .0
 
 as-bytes : Form
 as-bytes =
     record {
       src = bytes;
-      write = λ k. encoded (unsignedOf k);
+      write = tokenBytes;
       Good = λ b. b < 256;
       number-is = λ bs n rest good e small. let same : bs ≡ encoded n ++ rest = written-back bs n rest good e in (same, all-right (encoded n) rest (subst (All (λ b. b < 256)) same good));
       folded-is = λ bs n rest good e.
-          let same : bs ≡ encoded n ++ rest = written-back bs n rest good e in
-          (at-most bs n rest e, same ∙ ap (λ (i : ℕ). encoded i ++ rest) (sym (fold-unfold n)), all-right (encoded n) rest (subst (All (λ b. b < 256)) same good));
+          let same : bs ≡ encodedValue n ++ rest = value-written-back bs n rest good e in
+          (at-most bs n rest e, same ∙ ap (λ (i : ℕ). encodedValue i ++ rest) (sym (fold-unfold n)), all-right (encodedValue n) rest (subst (All (λ b. b < 256)) same good));
       number-back = λ n l small. read-back n l small;
-      folded-back = λ n l small. ap (λ (i : ℕ). unsigned (encoded i ++ l)) (fold-unfold n) ∙ read-back n l small;
+      folded-back = λ n l small. ap (λ (i : ℕ). unsignedOf valueWidth (encodedValue i ++ l)) (fold-unfold n) ∙ value-read-back n l small;
     }
 
 -- ---- lists
@@ -67,13 +67,13 @@ list-number (w ∷ ws) n rest (more g good) e small =
     (ap (λ (x : ℕ). x ∷ ws) folded ∙ ap (λ (l : List ℕ). foldSigned (pos n) ∷ l) left, subst (All Anything) left good)
 
 list-folded : (bs : List ℕ) (n : ℕ) (rest : List ℕ) → All Anything bs → numberList .folded bs ≡ accepted n rest
-    → (n ≤ width32 .most) × (bs ≡ foldSigned (unfoldSigned n) ∷ rest) × All Anything rest
+    → (n ≤ valueWidth .most) × (bs ≡ foldSigned (unfoldSigned n) ∷ rest) × All Anything rest
 list-folded [] n rest good e = absurd (not-accepted 2 n rest e)
 list-folded (w ∷ ws) n rest (more g good) e =
-    let (small, r) = ask-inv 3 (leb w (width32 .most)) (return w) ws n rest e in
+    let (small, r) = ask-inv 3 (leb w (valueWidth .most)) (return w) ws n rest e in
     let same : w ≡ n = cc in
     let left : ws ≡ rest = cc in (
-      subst (λ (x : ℕ). x ≤ width32 .most) same (leb-true w (width32 .most) small),
+      subst (λ (x : ℕ). x ≤ valueWidth .most) same (leb-true w (valueWidth .most) small),
       ap (λ (x : ℕ). x ∷ ws) (same ∙ sym (fold-unfold n)) ∙ ap (λ (l : List ℕ). foldSigned (unfoldSigned n) ∷ l) left,
       subst (All Anything) left good,
     )
@@ -87,7 +87,7 @@ as-list =
       number-is = list-number;
       folded-is = list-folded;
       number-back = λ n l small. ap (λ (z : ℤ). accepted (unsignedBy z) l) (unfold-fold (pos n));
-      folded-back = λ n l small. ap (λ (i : ℕ). fits i l) (fold-unfold n) ∙ rw (le-leb n (width32 .most) small) refl;
+      folded-back = λ n l small. ap (λ (i : ℕ). fits i l) (fold-unfold n) ∙ rw (le-leb n (valueWidth .most) small) refl;
     }
 
 -- ---- both ways
@@ -112,11 +112,11 @@ module _ (limits : Limits) (sup : Supported limits) where
       let (ks, is, fit, same, good, back) = copies-file as-list as-bytes limits sup (map foldSigned zs) g rest (all-anything (map foldSigned zs)) e in
       let nothing : rest ≡ [] = source-ended numberList limits (map foldSigned zs) g rest e in
       let folded : map foldSigned zs ≡ map foldSigned (map listed (guardTokens g)) = same ∙ ap (λ (l : List ℕ). concatMap one-number ks ++ l) nothing ∙ append-nil (concatMap one-number ks) ∙ one-each ks ∙ ap (λ (l : List Token). map foldSigned (map listed l)) is in (
-        ap (λ (l : List Token). fileOf bytes limits (concatMap (λ k. encoded (unsignedOf k)) l)) (sym is) ∙ ap (fileOf bytes limits) (sym (append-nil (concatMap (λ k. encoded (unsignedOf k)) ks))) ∙ back [] refl,
+        ap (λ (l : List Token). fileOf bytes limits (concatMap tokenBytes l)) (sym is) ∙ ap (fileOf bytes limits) (sym (append-nil (concatMap tokenBytes ks))) ∙ back [] refl,
         sym (unfold-all (map listed (guardTokens g))) ∙ ap (map unfoldSigned) (sym folded) ∙ unfold-all zs,
       )
 
-  -- every number of a list that is taken has 32 bits, as it is written
+  -- every number of a list that is taken fits into a file
   pub tokens-fit : (zs : List ℤ) (g : Guard) (rest : List ℕ) → listFile limits zs ≡ accepted g rest → All Fits (guardTokens g)
   unfolding listFile Copies as-bytes as-list
   tokens-fit zs g rest e =
@@ -129,5 +129,5 @@ module _ (limits : Limits) (sup : Supported limits) where
       let (ks, is, fit, same, good, back) = copies-file as-bytes as-list limits sup bs g rest small e in
       let nothing : rest ≡ [] = source-ended bytes limits bs g rest e in (
         ap (λ (l : List Token). fileOf numberList limits (map foldSigned (map listed l))) (sym is) ∙ ap (fileOf numberList limits) (sym (one-each ks) ∙ sym (append-nil (concatMap one-number ks))) ∙ back [] refl,
-        ap (concatMap (λ k. encoded (unsignedOf k))) (sym is) ∙ sym (append-nil (concatMap (λ k. encoded (unsignedOf k)) ks)) ∙ ap (λ (l : List ℕ). concatMap (λ k. encoded (unsignedOf k)) ks ++ l) (sym nothing) ∙ sym same,
+        ap (concatMap tokenBytes) (sym is) ∙ sym (append-nil (concatMap tokenBytes ks)) ∙ ap (λ (l : List ℕ). concatMap tokenBytes ks ++ l) (sym nothing) ∙ sym same,
       )

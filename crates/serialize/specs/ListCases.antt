@@ -7,7 +7,7 @@ use Rattle.guard.specs.Cases.{fileC, fileH, fileJ}
 use Rattle.guard.specs.Guard.{Guard}
 use Rattle.guard.specs.Limits.{base}
 use Rattle.guard.specs.Number.{Parsed, Parsed.accepted, Parsed.refused}
-use Rattle.encoding.specs.Encoding.{encoded}
+use Rattle.encoding.specs.Encoding.{encoded, encodedValue}
 use Rattle.serialize.specs.Tokens.{bytesOf, guardTokens}
 use Rattle.serialize.specs.NumberList.{listFile}
 
@@ -76,5 +76,5 @@ unfolding listFile
 questions-right = refl
 
 pub bytes-right : map (λ c. bytesFor (listFile base (c .numbers))) cases ≡ map (λ c. c .bytes) cases
-unfolding listFile guardTokens bytesOf encoded
+unfolding listFile guardTokens bytesOf encoded encodedValue
 bytes-right = refl

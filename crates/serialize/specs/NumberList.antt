@@ -7,7 +7,7 @@ use lib.IntN.{ℤ, pos, negsuc}
 use Rattle.guard.specs.Guard.{Guard}
 use Rattle.guard.specs.Grammar.{Source, fileOf}
 use Rattle.guard.specs.Limits.{Limits}
-use Rattle.guard.specs.Number.{Parsed, Parsed.accepted, Parsed.refused, Parser, _>>=_, _>>_, ask, foldSigned, return, unfoldSigned, width32}
+use Rattle.guard.specs.Number.{Parsed, Parsed.accepted, Parsed.refused, Parser, _>>=_, _>>_, ask, foldSigned, return, unfoldSigned, valueWidth}
 
 -- The parsers read unsigned numbers, so a list is read folded.
 
@@ -16,7 +16,7 @@ abbrev pub next : Parser ℕ
 next [] = refused 2
 next (w ∷ ws) = accepted w ws
 
--- A negative number is no count, names nothing and is no kind: it counts as one beyond every limit.
+-- A negative number is no count, names nothing and is no kind: it counts as one that is beyond every limit, 2 to the 64.
 abbrev pub beyond : ℕ
 beyond = 18446744073709551616
 
@@ -27,7 +27,7 @@ unsignedBy (negsuc n) = beyond
 -- "a constant beyond 32 bits gets 3"
 abbrev pub fits : ℕ → Parser ℕ
 fits w = do
-  ask 3 (leb w (width32 .most))
+  ask 3 (leb w (valueWidth .most))
   return w
 
 abbrev pub numberList : Source

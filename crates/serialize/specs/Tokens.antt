@@ -6,8 +6,8 @@ use lib.ListN.{length}
 use Rattle.laws.specs.Lists.{concatMap}
 use Rattle.guard.specs.Types.{Variant}
 use Rattle.guard.specs.Guard.{Guard, Literal, Literal.equal, Literal.is, Literal.isnt, Literal.unequal, Row, Row.built, Row.constant, Row.field, Row.variable}
-use Rattle.guard.specs.Number.{foldSigned, width32}
-use Rattle.encoding.specs.Encoding.{encoded}
+use Rattle.guard.specs.Number.{foldSigned, valueWidth, width32}
+use Rattle.encoding.specs.Encoding.{encoded, encodedValue}
 
 -- a number of the file: a count, a name or a kind; or a constant's value
 pub data Token : Type 0 where
@@ -60,9 +60,14 @@ abbrev pub unsignedOf : Token → ℕ
 unsignedOf (plain n) = n
 unsignedOf (value z) = foldSigned z
 
--- a number of 32 bits, as every one that a file can hold
+abbrev pub tokenBytes : Token → List ℕ
+tokenBytes (plain n) = encoded n
+tokenBytes (value z) = encodedValue (foldSigned z)
+
+-- a number that a file can hold
 abbrev pub Fits : Token → Type 0
-Fits k = unsignedOf k ≤ width32 .most
+Fits (plain n) = n ≤ width32 .most
+Fits (value z) = foldSigned z ≤ valueWidth .most
 
 unfoldable pub bytesOf : Guard → List ℕ
-bytesOf g = concatMap (λ k. encoded (unsignedOf k)) (guardTokens g)
+bytesOf g = concatMap tokenBytes (guardTokens g)

@@ -14,7 +14,7 @@ use borrow.Author.Tests.{not-false, not-true}
 use Rattle.serialize.specs.Tokens.{Token}
 use Rattle.bytebuffer.specs.Puts.{Puts}
 use Rattle.bytebuffer.proofs.PutLaws.{ends-within, nothing}
-use Rattle.filewriter.specs.Writer.{Marked}
+use Rattle.filewriter.specs.Marking.{Marked}
 use Rattle.filewriter.proofs.TokenLaws.{all-put, as-long, bytes, full-puts, next-puts, token-marked}
 use Rattle.filewriter.proofs.put_numbers.Statement.{statement}
 use Rattle.filewriter.proofs.put_numbers.Tie as tie

@@ -12,7 +12,7 @@ use Rattle.guard.specs.Limits.{base}
 use Rattle.serialize.specs.NumberList.{listFile}
 use Rattle.serialize.specs.Tokens.{guardTokens}
 use Rattle.valuemarks.specs.Marks.{untilLines}
-use Rattle.filewriter.specs.Writer.{Marked}
+use Rattle.filewriter.specs.Marking.{Marked}
 use Rattle.filewriter.proofs.WriteLaws.{Taken, all-marked, lines-few, list-length, listed-tables, refused-answer, refused-left, short-answer, short-left, taken, written-answer, written-left}
 use Rattle.filewriter.proofs.write.Statement.{statement}
 use Rattle.filewriter.proofs.write.Tie as tie

@@ -7,7 +7,7 @@ use mir.Val.{SFits, ofZ, toZ}
 use mir.Facts.{toZ-ofZ}
 use borrow.Author.Needs.{needs}
 use Rattle.guard.specs.Number.{foldSigned}
-use Rattle.filewriter.proofs.TokenLaws.{plain-listed, value-fits, value-folded}
+use Rattle.filewriter.proofs.TokenLaws.{plain-fits, plain-listed, value-fits, value-folded}
 use Rattle.filewriter.proofs.written_number.Statement.{statement}
 use Rattle.filewriter.proofs.written_number.Tie as tie
 
@@ -28,7 +28,7 @@ returns c =
 cast-result : tie.Need-cast-result
 cast-result c =
     let m = c .before .pre in
-    rw (toZ-ofZ (c .before .fits .x), m .is, plain-listed (m .token) (λ e. c .if1 .left (m .marked ∙ e))) (tt, omega (arith, m .fits))
+    rw (toZ-ofZ (c .before .fits .x), m .is, plain-listed (m .token) (λ e. c .if1 .left (m .marked ∙ e))) (tt, omega (arith, plain-fits (m .token) (λ e. c .if1 .left (m .marked ∙ e)) (m .fits)))
 
 returns-2 : tie.Need-returns-2
 returns-2 c =
