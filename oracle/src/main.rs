@@ -8,9 +8,10 @@ use std::process::ExitCode;
 
 use oracle::answer::{answer, answer_to};
 use oracle::guard::{Guard, Limits};
+use oracle::read::Question;
 use oracle::vectors::records::{self, Checked};
 use oracle::vectors::{self, Vector, USUAL_BUDGET};
-use oracle::{read, record, smt, tables, text};
+use oracle::{list, read, record, smt, tables, text};
 
 const USAGE: &str = "\
 usage: oracle answer FILE [--budget N]        the answer to a guard file
@@ -18,6 +19,9 @@ usage: oracle answer FILE [--budget N]        the answer to a guard file
        oracle smt FILE                        the guard in SMT-LIB 2
        oracle record FILE [--budget N]        the record of an UNSAT guard, in hexadecimal
        oracle check-record FILE RECORD        checks such a record against the guard
+       oracle list FILE                       the numbers of a guard file, constants as
+                                              their values
+       oracle write LIST                      the guard file of such numbers, in hexadecimal
        oracle vectors [--check] DIR           writes or checks DIR/vectors.txt
        oracle records [--check] DIR           writes or checks DIR/records.txt, with
                                               guards of DIR/vectors.txt
@@ -28,7 +32,7 @@ usage: oracle answer FILE [--budget N]        the answer to a guard file
        oracle walks [--check] VECTORS DIR     the same, with the answer to each in a line
        oracle answers [--check] VECTORS DIR   writes or checks DIR/stdin, and checks
                                               DIR/stdout, the whole answers of the desk
-FILE, OUTPUT and RECORD may be - for standard input. N is 1000000 if not given.";
+FILE, OUTPUT, RECORD and LIST may be - for standard input. N is 1000000 if not given.";
 
 /// Why the program fails.
 enum Failure {
@@ -69,6 +73,8 @@ fn run(words: &[&str]) -> Result<(), Failure> {
         ["record", file] => record_command(file, USUAL_BUDGET),
         ["record", file, "--budget", n] => record_command(file, budget(n)?),
         ["check-record", file, record] => check_record_command(file, record),
+        ["list", file] => list_command(file),
+        ["write", list] => write_command(list),
         ["vectors", "--check", dir] => check_vectors(dir),
         ["vectors", dir] => write_vectors(dir),
         ["records", "--check", dir] => check_records(dir),
@@ -141,9 +147,12 @@ fn check_command(file: &str, output: &str, budget: u32) -> Result<(), Failure> {
     print("ok\n")
 }
 
+fn refused(what: &str, question: Question) -> Failure {
+    Failure::Wrong(format!("the {what} is REFUSED {}", question.number()))
+}
+
 fn load_guard(file: &str) -> Result<Guard, Failure> {
-    read::read(&load(file)?, Limits::BASE)
-        .map_err(|question| Failure::Wrong(format!("the file is REFUSED {}", question.number())))
+    read::read(&load(file)?, Limits::BASE).map_err(|question| refused("file", question))
 }
 
 fn smt_command(file: &str) -> Result<(), Failure> {
@@ -169,6 +178,20 @@ fn check_record_command(file: &str, record: &str) -> Result<(), Failure> {
         Ok(()) => print("ok\n"),
         Err(refusal) => Err(Failure::Wrong(format!("REFUSED {}", refusal.number()))),
     }
+}
+
+fn list_command(file: &str) -> Result<(), Failure> {
+    let numbers = list::numbers(&load(file)?, Limits::BASE);
+    let numbers = numbers.map_err(|question| refused("file", question))?;
+    print(&format!("{}\n", list::text(&numbers)))
+}
+
+fn write_command(path: &str) -> Result<(), Failure> {
+    let numbers = list::parse(&load_text(path)?)
+        .ok_or(Failure::Wrong(format!("{path} isn't a list of numbers")))?;
+    let file = list::write(&numbers, Limits::BASE);
+    let file = file.map_err(|question| refused("list", question))?;
+    print(&format!("{}\n", vectors::hex(&file)))
 }
 
 fn write_vectors(dir: &str) -> Result<(), Failure> {

@@ -75,7 +75,7 @@ fn checks_printed_answers() {
 
 #[test]
 fn wrong_use_is_said() {
-    let cases: [&[&str]; 26] = [
+    let cases: [&[&str]; 29] = [
         &[],
         &["nonsense"],
         &["answer"],
@@ -92,6 +92,9 @@ fn wrong_use_is_said() {
         &["record", "-", "--budget", "many"],
         &["check-record", "-", "-"],
         &["check-record", "-", "no such file"],
+        &["list"],
+        &["list", "no such file"],
+        &["write", "no such file"],
         &["vectors", "--check", "no such directory"],
         &["records", "no such directory"],
         &["records", "--check", "no such directory"],
@@ -177,6 +180,30 @@ fn records_are_written_and_checked() {
     for vectors in ["", "x\t1\t000000\tUNSAT 1\n"] {
         fs::write(dir.join("vectors.txt"), vectors).expect("written");
         assert_eq!(code(&["records", &place]), Some(1));
+    }
+}
+
+/// Document 01's case j: the values −3 and 4.
+const J: &[u8] = &[1, 0, 2, 1, 0, 5, 1, 0, 8, 1, 0, 0, 1];
+
+#[test]
+fn lists_and_files() {
+    let (list, hex) = (
+        "1 0 2 1 0 -3 1 0 4 1 0 0 1\n",
+        "01000201000501000801000001\n",
+    );
+    assert_eq!(printed(&oracle(&["list", "-"], J)), list);
+    assert_eq!(printed(&oracle(&["write", "-"], list.as_bytes())), hex);
+    for (words, input, why) in [
+        (&["list", "-"], &[7][..], "the file is REFUSED 4"),
+        (&["write", "-"], b"-1", "the list is REFUSED 4"),
+        (&["write", "-"], b"-", "the list is REFUSED 2"),
+        (&["write", "-"], b"", "the list is REFUSED 2"),
+        (&["write", "-"], b"0 0 zero", "isn't a list of numbers"),
+    ] {
+        let output = oracle(words, input);
+        assert_eq!(output.status.code(), Some(1), "{why}");
+        assert!(String::from_utf8_lossy(&output.stderr).contains(why));
     }
 }
 
