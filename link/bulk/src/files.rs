@@ -174,7 +174,9 @@ fn any(random: &mut Random) -> Profile {
         row_kinds: weights(random),
         line_kinds: weights(random),
         deep: random.below(100),
-        values: (0..1 + random.below(4)).map(|_| edge_value(random)).collect(),
+        values: (0..1 + random.below(4))
+            .map(|_| edge_value(random))
+            .collect(),
     }
 }
 
