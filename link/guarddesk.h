@@ -1,16 +1,17 @@
 /*
  * The guard desk: whether a guard over message fields can hold at all and, where it can, messages that make it hold; where it
- * cannot, a record of every branch that was tried, and a check of such records.
+ * cannot, a record of every branch that was tried, and a check of such records. And a writer of guard files, for programs that
+ * make guards.
  *
- * Three functions, in libdesklink.a (x86-64 Linux). What they give is proved for every file, budget, record and buffer length;
+ * Four functions, in libdesklink.a (x86-64 Linux). What they give is proved for every file, budget, record, list and buffer length;
  * docs/EMBEDDING.md says what rests on what.
  *
  *   - They allocate nothing, keep nothing between calls and call nothing but memcpy and memset. Calls in several
  *     threads at once are fine, each with its own buffers.
  *   - They always end. The budget bounds the time of guarddesk_decide: no more nodes than that are searched. At the limits of a
  *     guard a node was measured at 1 to 1.8 microseconds (docs/BENCHMARKS.md). guarddesk_explain visits the nodes of a closed search
- *     once more, guarddesk_check at most those of the record.
- *   - Each needs 820 KB of stack or less (docs/EMBEDDING.md counts the bytes).
+ *     once more, guarddesk_check at most those of the record. guarddesk_write searches nothing.
+ *   - Each needs 820 KB of stack or less, guarddesk_write 11 KB (docs/EMBEDDING.md counts the bytes).
  */
 #ifndef GUARDDESK_H
 #define GUARDDESK_H
@@ -42,6 +43,9 @@ extern "C" {
 
 /* How many bytes of a record suffice for each node of the node count. */
 #define GUARDDESK_RECORD_BYTES_PER_NODE 3
+
+/* How many bytes of output always suffice for guarddesk_write: no guard file is longer. */
+#define GUARDDESK_FILE_LENGTH 465
 
 /* The nodes of a record, by their first number. */
 #define GUARDDESK_EMPTY_LABEL 0      /* a term: no variant is left for it */
@@ -123,6 +127,24 @@ size_t guarddesk_explain(const uint8_t *file, size_t file_length, uint32_t budge
  * not null and points to as many bytes as its length says, and nothing writes them during the call.
  */
 uint32_t guarddesk_check(const uint8_t *file, size_t file_length, const uint8_t *record, size_t record_length);
+
+/*
+ * Writes the guard file of a list of its numbers: counts, kinds and names as they are, in file order, and the constants as their
+ * values, from -2147483648 to 2147483647. The other calls take what it writes, and read these numbers from it; the numbers of a
+ * file that they take are written as that file, byte for byte.
+ *
+ * It returns how many bytes the file has. They stand in front of out, and bytes behind them are 0. GUARDDESK_FILE_LENGTH bytes
+ * always suffice. Otherwise it returns a number below 0, minus the first question that got a no, and all of out is 0:
+ *    -2  the list ends before the guard does     -6  a kind is none of those listed
+ *    -3  a constant is beyond 32 bits            -7  a type does not fit
+ *    -4  a count is outside its limits           -8  a type has no default
+ *    -5  something named is not there            -9  a variant with fields has none of infinite type
+ *   -10  numbers follow the last line           -14  the file has more than out_length bytes; this is asked last
+ * A negative number where a count, a name or a kind stands gets -4, -5 or -6, as one that is too large does.
+ *
+ * The caller owes what guarddesk_decide asks, for these two areas.
+ */
+int64_t guarddesk_write(const int64_t *list, size_t list_length, uint8_t *out, size_t out_length);
 
 #ifdef __cplusplus
 }

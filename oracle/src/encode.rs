@@ -1,6 +1,6 @@
 //! Writes guard files. A draft may break rules that an accepted guard keeps.
 
-use crate::guard::{Limits, Line, Row, FIELDS, VARIANTS_IN_ALL, VARIANTS_PER_TYPE};
+use crate::guard::{Guard, Limits, Line, Row, FIELDS, VARIANTS_IN_ALL, VARIANTS_PER_TYPE};
 use crate::number;
 use crate::types::Type;
 
@@ -50,6 +50,16 @@ impl Draft {
         Draft {
             types,
             ..Draft::default()
+        }
+    }
+
+    /// The draft of an accepted guard.
+    pub fn of(guard: &Guard) -> Draft {
+        Draft {
+            types: guard.types.clone(),
+            rows: guard.rows.clone(),
+            row_types: guard.row_types.clone(),
+            lines: guard.lines.clone(),
         }
     }
 

@@ -8,9 +8,9 @@ use std::process::ExitCode;
 
 use oracle::answer::{answer, answer_to};
 use oracle::guard::{Guard, Limits};
-use oracle::vectors::records::{self, Checked};
-use oracle::vectors::{self, Vector, USUAL_BUDGET};
-use oracle::{read, record, smt, tables, text};
+use oracle::read::Question;
+use oracle::vectors::{self, lists, records, Vector, USUAL_BUDGET};
+use oracle::{list, read, record, smt, tables, text};
 
 const USAGE: &str = "\
 usage: oracle answer FILE [--budget N]        the answer to a guard file
@@ -18,8 +18,13 @@ usage: oracle answer FILE [--budget N]        the answer to a guard file
        oracle smt FILE                        the guard in SMT-LIB 2
        oracle record FILE [--budget N]        the record of an UNSAT guard, in hexadecimal
        oracle check-record FILE RECORD        checks such a record against the guard
+       oracle list FILE                       the numbers of a guard file, constants as
+                                              their values
+       oracle write LIST                      the guard file of such numbers, in hexadecimal
        oracle vectors [--check] DIR           writes or checks DIR/vectors.txt
        oracle records [--check] DIR           writes or checks DIR/records.txt, with
+                                              guards of DIR/vectors.txt
+       oracle lists [--check] DIR             writes or checks DIR/lists.txt, with
                                               guards of DIR/vectors.txt
        oracle pack VECTORS OUT                packs vectors into one binary file
        oracle tables [--check] VECTORS DIR    writes or checks DIR/stdin, the packed
@@ -28,7 +33,7 @@ usage: oracle answer FILE [--budget N]        the answer to a guard file
        oracle walks [--check] VECTORS DIR     the same, with the answer to each in a line
        oracle answers [--check] VECTORS DIR   writes or checks DIR/stdin, and checks
                                               DIR/stdout, the whole answers of the desk
-FILE, OUTPUT and RECORD may be - for standard input. N is 1000000 if not given.";
+FILE, OUTPUT, RECORD and LIST may be - for standard input. N is 1000000 if not given.";
 
 /// Why the program fails.
 enum Failure {
@@ -69,10 +74,14 @@ fn run(words: &[&str]) -> Result<(), Failure> {
         ["record", file] => record_command(file, USUAL_BUDGET),
         ["record", file, "--budget", n] => record_command(file, budget(n)?),
         ["check-record", file, record] => check_record_command(file, record),
-        ["vectors", "--check", dir] => check_vectors(dir),
-        ["vectors", dir] => write_vectors(dir),
-        ["records", "--check", dir] => check_records(dir),
-        ["records", dir] => write_records(dir),
+        ["list", file] => list_command(file),
+        ["write", list] => write_command(list),
+        ["vectors", "--check", dir] => check_kept(&VECTORS, dir),
+        ["vectors", dir] => write_kept(&VECTORS, dir),
+        ["records", "--check", dir] => check_kept(&RECORDS, dir),
+        ["records", dir] => write_kept(&RECORDS, dir),
+        ["lists", "--check", dir] => check_kept(&LISTS, dir),
+        ["lists", dir] => write_kept(&LISTS, dir),
         ["pack", vectors, out] => pack_command(vectors, out),
         ["tables", "--check", vectors, dir] => check_run(vectors, dir, tables::summaries),
         ["tables", vectors, dir] => write_run(vectors, dir, tables::summaries),
@@ -141,9 +150,12 @@ fn check_command(file: &str, output: &str, budget: u32) -> Result<(), Failure> {
     print("ok\n")
 }
 
+fn refused(what: &str, question: Question) -> Failure {
+    Failure::Wrong(format!("the {what} is REFUSED {}", question.number()))
+}
+
 fn load_guard(file: &str) -> Result<Guard, Failure> {
-    read::read(&load(file)?, Limits::BASE)
-        .map_err(|question| Failure::Wrong(format!("the file is REFUSED {}", question.number())))
+    read::read(&load(file)?, Limits::BASE).map_err(|question| refused("file", question))
 }
 
 fn smt_command(file: &str) -> Result<(), Failure> {
@@ -171,19 +183,73 @@ fn check_record_command(file: &str, record: &str) -> Result<(), Failure> {
     }
 }
 
-fn write_vectors(dir: &str) -> Result<(), Failure> {
-    let all = vectors::all();
-    let path = Path::new(dir).join("vectors.txt");
-    store(&path, vectors::text(&all).as_bytes())?;
-    print(&format!("{} vectors written\n", all.len()))
+fn list_command(file: &str) -> Result<(), Failure> {
+    let numbers = list::numbers(&load(file)?, Limits::BASE);
+    let numbers = numbers.map_err(|question| refused("file", question))?;
+    print(&format!("{}\n", list::text(&numbers)))
 }
 
-fn check_vectors(dir: &str) -> Result<(), Failure> {
-    let path = inside(dir, "vectors.txt");
+fn write_command(path: &str) -> Result<(), Failure> {
+    let numbers = list::parse(&load_text(path)?)
+        .ok_or(Failure::Wrong(format!("{path} isn't a list of numbers")))?;
+    let file = list::write(&numbers, Limits::BASE);
+    let file = file.map_err(|question| refused("list", question))?;
+    print(&format!("{}\n", vectors::hex(&file)))
+}
+
+/// A file of test data, which is made anew to be written or compared.
+struct Kept {
+    name: &'static str,
+    /// What it has on its lines.
+    what: &'static str,
+    /// Its text and the number of its lines, with what else is in the directory.
+    make: fn(&str) -> Result<(String, usize), Failure>,
+}
+
+const VECTORS: Kept = Kept {
+    name: "vectors.txt",
+    what: "vectors",
+    make: |_| {
+        let all = vectors::all();
+        Ok((vectors::text(&all), all.len()))
+    },
+};
+
+const RECORDS: Kept = Kept {
+    name: "records.txt",
+    what: "records",
+    make: |dir| {
+        let all = records::all(&vectors_of(dir)?).map_err(Failure::Wrong)?;
+        Ok((records::text(&all), all.len()))
+    },
+};
+
+const LISTS: Kept = Kept {
+    name: "lists.txt",
+    what: "lists",
+    make: |dir| {
+        let all = lists::all(&vectors_of(dir)?).map_err(Failure::Wrong)?;
+        Ok((lists::text(&all), all.len()))
+    },
+};
+
+fn write_kept(kept: &Kept, dir: &str) -> Result<(), Failure> {
+    let (text, many) = (kept.make)(dir)?;
+    store(&Path::new(dir).join(kept.name), text.as_bytes())?;
+    print(&format!("{many} {} written\n", kept.what))
+}
+
+fn check_kept(kept: &Kept, dir: &str) -> Result<(), Failure> {
+    let path = inside(dir, kept.name);
     let found = load_text(&path)?;
-    let all = vectors::all();
-    ensure_same(&path, &found, &vectors::text(&all))?;
-    print(&format!("ok, {} vectors\n", all.len()))
+    let (text, many) = (kept.make)(dir)?;
+    ensure_same(&path, &found, &text)?;
+    print(&format!("ok, {many} {}\n", kept.what))
+}
+
+/// The vectors in a directory.
+fn vectors_of(dir: &str) -> Result<Vec<Vector>, Failure> {
+    load_vectors(&inside(dir, VECTORS.name))
 }
 
 /// The path of a file in a directory.
@@ -197,26 +263,6 @@ fn ensure_same(path: &str, found: &str, expected: &str) -> Result<(), Failure> {
         None => Ok(()),
         Some(difference) => Err(Failure::Wrong(format!("{path}: {difference}"))),
     }
-}
-
-fn make_records(dir: &str) -> Result<Vec<Checked>, Failure> {
-    let vectors = load_vectors(&inside(dir, "vectors.txt"))?;
-    records::all(&vectors).map_err(Failure::Wrong)
-}
-
-fn write_records(dir: &str) -> Result<(), Failure> {
-    let all = make_records(dir)?;
-    let path = Path::new(dir).join("records.txt");
-    store(&path, records::text(&all).as_bytes())?;
-    print(&format!("{} records written\n", all.len()))
-}
-
-fn check_records(dir: &str) -> Result<(), Failure> {
-    let path = inside(dir, "records.txt");
-    let found = load_text(&path)?;
-    let all = make_records(dir)?;
-    ensure_same(&path, &found, &records::text(&all))?;
-    print(&format!("ok, {} records\n", all.len()))
 }
 
 fn load_vectors(path: &str) -> Result<Vec<Vector>, Failure> {

@@ -61,6 +61,14 @@ impl Random {
     }
 }
 
+/// A value for a constant, near the ends of each length that it may have.
+pub fn edge_value(random: &mut Random) -> i32 {
+    let edge = 1i64 << [0, 6, 13, 20, 27, 31][random.below(6)];
+    let near = edge + random.below(5) as i64 - 2;
+    let signed = if random.percent(50) { near } else { -near };
+    signed.clamp(i64::from(i32::MIN), i64::from(i32::MAX)) as i32
+}
+
 /// How the types of a random guard are made.
 #[derive(Clone, Debug)]
 pub enum Types {

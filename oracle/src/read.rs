@@ -1,4 +1,5 @@
-//! Reads a guard file, asking the questions of document 01 in their order.
+//! Reads a guard, asking the questions of document 01 in their order: from the
+//! bytes of a file, or from where else its numbers come.
 
 use crate::guard::{Guard, Limits, Line, Row, FIELDS, VARIANTS_IN_ALL, VARIANTS_PER_TYPE};
 use crate::number;
@@ -58,9 +59,27 @@ pub fn buffers_long_enough(row_buffer: usize, place_buffer: usize) -> Result<(),
     Question::BuffersLongEnough.ask(row_buffer >= ROW_BUFFER && place_buffer >= PLACE_BUFFER)
 }
 
+/// Where the numbers of a guard come from, in file order. A number that isn't
+/// there, or isn't in its form, gets a no.
+pub trait Numbers {
+    /// A count, a name or a kind, whatever its size.
+    fn plain(&mut self) -> Result<i64, Question>;
+
+    /// The value of a constant.
+    fn value(&mut self) -> Result<i32, Question>;
+
+    /// Is no number left?
+    fn ended(&self) -> bool;
+}
+
 /// Questions 2 to 10: the guard that `file` holds.
 pub fn read(file: &[u8], limits: Limits) -> Result<Guard, Question> {
-    let mut reader = Reader { rest: file };
+    read_numbers(File { rest: file }, limits)
+}
+
+/// The guard of which these are the numbers.
+pub fn read_numbers(numbers: impl Numbers, limits: Limits) -> Result<Guard, Question> {
+    let mut reader = Reader { numbers };
     let types = reader.types(limits)?;
 
     // "After the last type and before N."
@@ -85,15 +104,15 @@ pub fn read(file: &[u8], limits: Limits) -> Result<Guard, Question> {
         let line = reader.line(&guard)?;
         guard.lines.push(line);
     }
-    Question::FileEnded.ask(reader.rest.is_empty())?;
+    Question::FileEnded.ask(reader.numbers.ended())?;
     Ok(guard)
 }
 
-struct Reader<'a> {
+struct File<'a> {
     rest: &'a [u8],
 }
 
-impl Reader<'_> {
+impl File<'_> {
     /// Questions 2 and 3.
     fn number(&mut self) -> Result<u32, Question> {
         let (value, length) = number::read(self.rest).map_err(|fault| match fault {
@@ -103,10 +122,30 @@ impl Reader<'_> {
         self.rest = &self.rest[length..];
         Ok(value)
     }
+}
 
+impl Numbers for File<'_> {
+    fn plain(&mut self) -> Result<i64, Question> {
+        self.number().map(i64::from)
+    }
+
+    fn value(&mut self) -> Result<i32, Question> {
+        self.number().map(number::unfold)
+    }
+
+    fn ended(&self) -> bool {
+        self.rest.is_empty()
+    }
+}
+
+struct Reader<N> {
+    numbers: N,
+}
+
+impl<N: Numbers> Reader<N> {
     /// A number below `bound`; any other gets a no to `question`.
     fn below(&mut self, bound: usize, question: Question) -> Result<usize, Question> {
-        let value = self.number()?;
+        let value = self.numbers.plain()?;
         match usize::try_from(value) {
             Ok(value) if value < bound => Ok(value),
             _ => Err(question),
@@ -171,7 +210,7 @@ impl Reader<'_> {
             1 => {
                 let ty = self.name(guard.types.len())?;
                 Question::TypeFits.ask(guard.types[ty].is_number())?;
-                let value = number::unfold(self.number()?);
+                let value = self.numbers.value()?;
                 Ok((Row::Constant { ty, value }, ty))
             }
             2 => {

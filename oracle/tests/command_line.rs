@@ -75,7 +75,7 @@ fn checks_printed_answers() {
 
 #[test]
 fn wrong_use_is_said() {
-    let cases: [&[&str]; 26] = [
+    let cases: [&[&str]; 31] = [
         &[],
         &["nonsense"],
         &["answer"],
@@ -92,9 +92,14 @@ fn wrong_use_is_said() {
         &["record", "-", "--budget", "many"],
         &["check-record", "-", "-"],
         &["check-record", "-", "no such file"],
+        &["list"],
+        &["list", "no such file"],
+        &["write", "no such file"],
         &["vectors", "--check", "no such directory"],
         &["records", "no such directory"],
         &["records", "--check", "no such directory"],
+        &["lists", "no such directory"],
+        &["lists", "--check", "no such directory"],
         &["pack", "no such file", "out"],
         &["tables", "no such file", "."],
         &["tables", "--check", "no such file", "."],
@@ -160,23 +165,59 @@ fn checks_records() {
     }
 }
 
-#[test]
-fn records_are_written_and_checked() {
-    let dir = scratch("records");
+/// A file that is made from the vectors: written anew it is the kept one, and
+/// a wrong one is told.
+fn made_and_checked(command: &str) {
+    let dir = scratch(command);
+    let name = format!("{command}.txt");
     let kept = PathBuf::from(env!("CARGO_MANIFEST_DIR")).join("../vectors");
     fs::copy(kept.join("vectors.txt"), dir.join("vectors.txt")).expect("copied");
     let place = dir.display().to_string();
     let code = |words: &[&str]| oracle(words, &[]).status.code();
-    assert_eq!(code(&["records", &place]), Some(0));
-    assert_eq!(code(&["records", "--check", &place]), Some(0));
-    let right = fs::read(dir.join("records.txt")).expect("the records");
-    assert_eq!(right, fs::read(kept.join("records.txt")).expect("kept"));
-    fs::write(dir.join("records.txt"), &right[..right.len() - 2]).expect("written");
-    assert_eq!(code(&["records", "--check", &place]), Some(1));
+    assert_eq!(code(&[command, &place]), Some(0));
+    assert_eq!(code(&[command, "--check", &place]), Some(0));
+    let right = fs::read(dir.join(&name)).expect("what was made");
+    assert_eq!(right, fs::read(kept.join(&name)).expect("kept"));
+    fs::write(dir.join(&name), &right[..right.len() - 2]).expect("written");
+    assert_eq!(code(&[command, "--check", &place]), Some(1));
     // Too few guards for each kind of damage, and wrong answers.
     for vectors in ["", "x\t1\t000000\tUNSAT 1\n"] {
         fs::write(dir.join("vectors.txt"), vectors).expect("written");
-        assert_eq!(code(&["records", &place]), Some(1));
+        assert_eq!(code(&[command, &place]), Some(1));
+    }
+}
+
+#[test]
+fn records_are_written_and_checked() {
+    made_and_checked("records");
+}
+
+#[test]
+fn lists_are_written_and_checked() {
+    made_and_checked("lists");
+}
+
+/// Document 01's case j: the values −3 and 4.
+const J: &[u8] = &[1, 0, 2, 1, 0, 5, 1, 0, 8, 1, 0, 0, 1];
+
+#[test]
+fn lists_and_files() {
+    let (list, hex) = (
+        "1 0 2 1 0 -3 1 0 4 1 0 0 1\n",
+        "01000201000501000801000001\n",
+    );
+    assert_eq!(printed(&oracle(&["list", "-"], J)), list);
+    assert_eq!(printed(&oracle(&["write", "-"], list.as_bytes())), hex);
+    for (words, input, why) in [
+        (&["list", "-"], &[7][..], "the file is REFUSED 4"),
+        (&["write", "-"], b"-1", "the list is REFUSED 4"),
+        (&["write", "-"], b"-", "the list is REFUSED 2"),
+        (&["write", "-"], b"", "the list is REFUSED 2"),
+        (&["write", "-"], b"0 0 zero", "isn't a list of numbers"),
+    ] {
+        let output = oracle(words, input);
+        assert_eq!(output.status.code(), Some(1), "{why}");
+        assert!(String::from_utf8_lossy(&output.stderr).contains(why));
     }
 }
 

@@ -15,7 +15,9 @@ const LOOKED_AT: usize = 1_000_000;
 /// A line for each node of the search, the branches of a split indented by two. The error is
 /// for a record that isn't one of this guard.
 pub fn branches(source: &Source, refutation: &Refutation) -> Result<String, String> {
-    check(&encode(&source.guard).bytes, refutation.bytes()).map_err(|question| {
+    let file =
+        encode(&source.guard).map_err(|refusal| format!("the guard has no file, {refusal}"))?;
+    check(&file, refutation.bytes()).map_err(|question| {
         format!("the desk's record of this guard isn't accepted, {question}")
     })?;
     let mut printer = Printer {
@@ -112,7 +114,7 @@ impl Printer<'_> {
         let line = u8::try_from(guard.lines.len()).ok()?;
         guard.lines.push(Line::Unequal(row, other));
         let record = [&self.record[..self.at], &[1, line]].concat();
-        match check(&encode(&guard).bytes, &record) {
+        match check(&encode(&guard).ok()?, &record) {
             // Taken; the nodes after it are left out.
             Ok(()) | Err(Question(13)) => Some(true),
             Err(Question(12)) => Some(false),

@@ -119,17 +119,21 @@ fn source(path: &str) -> Result<Source, Failure> {
 
 fn decide_command(options: &Options) -> Result<(), Failure> {
     let source = source(&options.file)?;
-    let file = encode(&source.guard);
-    let answer = decide(&file.bytes, options.budget);
-    let shown = show(&source, &file, &answer).map_err(Failure::Use)?;
+    let answer = match encode(&source.guard) {
+        Ok(file) => decide(&file, options.budget),
+        Err(refusal) => Answer::Refused(refusal.0),
+    };
+    let shown = show(&source, &answer).map_err(Failure::Use)?;
     print_answer(&answer, &shown)
 }
 
 fn explain_command(options: &Options) -> Result<(), Failure> {
     let source = source(&options.file)?;
-    let file = encode(&source.guard);
-    let (answer, refutation) = explain(&file.bytes, options.budget);
-    let mut shown = show(&source, &file, &answer).map_err(Failure::Use)?;
+    let (answer, refutation) = match encode(&source.guard) {
+        Ok(file) => explain(&file, options.budget),
+        Err(refusal) => (Answer::Refused(refusal.0), None),
+    };
+    let mut shown = show(&source, &answer).map_err(Failure::Use)?;
     if let Some(refutation) = refutation {
         shown += &branches(&source, &refutation).map_err(Failure::Use)?;
     }
@@ -145,10 +149,19 @@ fn print_answer(answer: &Answer, shown: &str) -> Result<(), Failure> {
 }
 
 fn encode_command(options: &Options) -> Result<(), Failure> {
-    let bytes = encode(&source(&options.file)?.guard).bytes;
+    let source = source(&options.file)?;
+    let bytes = encode(&source.guard).map_err(|refusal| refused(options, &source, refusal.0))?;
     match options.hex {
         true => print(format!("{}\n", hex(&bytes)).as_bytes()),
         false => print(&bytes),
+    }
+}
+
+/// A guard that has no file: the same words as those of `decide`.
+fn refused(options: &Options, source: &Source, question: u32) -> Failure {
+    match show(source, &Answer::Refused(question)) {
+        Ok(shown) => Failure::Wrong(format!("{}, {}", options.file, shown.trim_end())),
+        Err(why) => Failure::Use(why),
     }
 }
 

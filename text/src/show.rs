@@ -5,7 +5,6 @@ use std::fmt::Write;
 
 use crate::check::Source;
 use crate::desk::{Answer, Message};
-use crate::encode::Encoded;
 use crate::guard::{Guard, Names};
 use crate::refusals::explain;
 
@@ -14,10 +13,10 @@ use crate::refusals::explain;
 const IN_FULL: u64 = 100_000;
 
 /// What is printed for an answer. The error is for an answer that can't be one.
-pub fn show(source: &Source, file: &Encoded, answer: &Answer) -> Result<String, String> {
+pub fn show(source: &Source, answer: &Answer) -> Result<String, String> {
     match answer {
         Answer::Refused(question) => {
-            let fault = explain(source, file, *question)?;
+            let fault = explain(source, *question)?;
             Ok(format!("REFUSED {question}, {fault}\n"))
         }
         Answer::Sat {

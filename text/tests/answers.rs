@@ -1,5 +1,6 @@
 //! Answers in the author's names.
 
+use guarddesk::Refusal;
 use guardtext::check::Source;
 use guardtext::desk::{Answer, Message};
 use guardtext::encode::encode;
@@ -12,12 +13,12 @@ fn read(text: &str) -> Source {
 }
 
 fn answered(text: &str, answer: Answer) -> Result<String, String> {
-    let source = read(text);
-    let file = encode(&source.guard);
-    show(&source, &file, &answer)
+    show(&read(text), &answer)
 }
 
+/// What is shown where the writer refuses the guard with this question.
 fn refused(text: &str, question: u32) -> String {
+    assert_eq!(encode(&read(text).guard), Err(Refusal(question)), "{text}");
     answered(text, Answer::Refused(question)).unwrap_or_else(|why| panic!("{why}"))
 }
 

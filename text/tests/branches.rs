@@ -11,10 +11,14 @@ fn read(text: &str) -> Source {
     guardtext::read(text).unwrap_or_else(|fault| panic!("{fault}"))
 }
 
+fn file(source: &Source) -> Vec<u8> {
+    encode(&source.guard).unwrap_or_else(|refusal| panic!("{refusal}"))
+}
+
 /// The branches of a dead guard.
 fn dead(text: &str) -> String {
     let source = read(text);
-    let (answer, refutation) = explain(&encode(&source.guard).bytes, 1000);
+    let (answer, refutation) = explain(&file(&source), 1000);
     assert!(matches!(answer, Answer::Unsat { .. }), "{answer:?}");
     branches(&source, &refutation.expect("branches")).unwrap_or_else(|why| panic!("{why}"))
 }
@@ -96,7 +100,7 @@ fn without_room_for_a_line_the_numbers_stay_out() {
 
 #[test]
 fn a_record_of_another_guard_is_an_error() {
-    let file = encode(&read("type N = number\n1 = 2").guard).bytes;
+    let file = file(&read("type N = number\n1 = 2"));
     let (_, refutation) = explain(&file, 1);
     let other = read("type N = number\n1 = 1");
     let why = branches(&other, &refutation.expect("branches")).expect_err("an error");
@@ -105,8 +109,8 @@ fn a_record_of_another_guard_is_an_error() {
 
 #[test]
 fn other_answers_have_no_branches() {
-    for text in ["", "type A = a(x: A)"] {
-        let (_, refutation) = explain(&encode(&read(text).guard).bytes, 1);
-        assert_eq!(refutation, None, "{text}");
+    for file in [file(&read("")), vec![1, 1, 1, 0]] {
+        let (_, refutation) = explain(&file, 1);
+        assert_eq!(refutation, None, "{file:?}");
     }
 }

@@ -7,7 +7,7 @@ const LISTS: &str = "type Num = number\ntype List = nil | cons(head: Num, tail: 
 
 fn file(text: &str) -> String {
     let source = guardtext::read(text).unwrap_or_else(|fault| panic!("{fault}"));
-    hex(&encode(&source.guard).bytes)
+    hex(&encode(&source.guard).unwrap_or_else(|refusal| panic!("{refusal}")))
 }
 
 fn with_lists(text: &str) -> String {

@@ -1,6 +1,6 @@
 //! The library's checker of records against the outside solver's: right records, damaged ones and those of other guards.
 
-use crate::counts::Checks;
+use crate::counts::Numbered;
 use crate::desk::Desk;
 use crate::files::{self, Maker};
 use crate::known::Known;
@@ -43,7 +43,7 @@ impl Checker {
         random: &mut Random,
         file: &[u8],
         known: &Known,
-        checks: &mut Checks,
+        checks: &mut Numbered,
     ) -> Result<(), Box<Mismatch>> {
         for record in self.tried(random, known) {
             let expected = answer(file, &record);
@@ -112,7 +112,7 @@ fn check(
     file: &[u8],
     record: &[u8],
     expected: u8,
-    checks: &mut Checks,
+    checks: &mut Numbered,
 ) -> Result<(), Box<Mismatch>> {
     let answered = desk.check(file, record);
     if answered == u32::from(expected) {
@@ -129,8 +129,8 @@ fn mismatch(file: &[u8], record: &[u8], why: String) -> Box<Mismatch> {
 }
 
 /// All lines of `records.txt`.
-pub fn compare_lines(desk: &impl Desk, text: &str) -> Result<Checks, String> {
-    let mut checks = Checks::default();
+pub fn compare_lines(desk: &impl Desk, text: &str) -> Result<Numbered, String> {
+    let mut checks = Numbered::default();
     for line in parse(text)? {
         check(desk, &line.file, &line.record, line.answer, &mut checks)
             .map_err(|mismatch| format!("MISMATCH in {}\n{mismatch}", line.name))?;

@@ -8,6 +8,7 @@ use crate::desk::{Desk, Lent};
 use crate::files::Maker;
 use crate::known::Known;
 use crate::mismatch::Mismatch;
+use crate::writes::Writer;
 use guarddesk::raw;
 use oracle::answer::Answer;
 use oracle::random::Random;
@@ -38,11 +39,11 @@ fn claimed(numbers: &[u32]) -> Option<(Answer, usize)> {
     Some((answer, rows as usize))
 }
 
-fn ensure(condition: bool, why: &str) -> Result<(), String> {
+pub fn ensure(condition: bool, why: &str) -> Result<(), String> {
     condition.then_some(()).ok_or_else(|| why.to_string())
 }
 
-fn all_zero<T: Default + PartialEq>(numbers: &[T]) -> bool {
+pub fn all_zero<T: Default + PartialEq>(numbers: &[T]) -> bool {
     numbers.iter().all(|number| *number == T::default())
 }
 
@@ -55,6 +56,7 @@ pub struct Comparer<D> {
     record: Buffer<u8>,
     answer: Buffer<u32>,
     checker: Checker,
+    writer: Writer,
 }
 
 impl<D: Desk> Comparer<D> {
@@ -71,6 +73,7 @@ impl<D: Desk> Comparer<D> {
             // Cut down to a byte, the noise has no 0 either.
             record: Buffer::new(random, record, |n| n as u8),
             checker: Checker::new(maker),
+            writer: Writer::new(random),
         }
     }
 
@@ -93,7 +96,10 @@ impl<D: Desk> Comparer<D> {
         }
         let checked = &mut counts.checked;
         self.checker
-            .compare(&self.desk, random, file, &known, checked)
+            .compare(&self.desk, random, file, &known, checked)?;
+        let written = &mut counts.written;
+        self.writer
+            .compare(&self.desk, random, file, &known, written)
     }
 
     /// One call, and the number of rows shown.

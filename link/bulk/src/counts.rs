@@ -107,11 +107,11 @@ impl fmt::Display for Calls {
     }
 }
 
-/// Counts of the checker's answers, by number; 0 is that of a record that is accepted.
+/// Counts of the checker's or the writer's answers, by number; 0 is that of what is accepted.
 #[derive(Clone, Copy, Debug, Default, PartialEq, Eq)]
-pub struct Checks(pub [u64; 14]);
+pub struct Numbered(pub [u64; 15]);
 
-impl Checks {
+impl Numbered {
     /// An answer that was right.
     pub fn add(&mut self, answer: u8) {
         self.0[usize::from(answer)] += 1;
@@ -122,7 +122,7 @@ impl Checks {
     }
 }
 
-impl fmt::Display for Checks {
+impl fmt::Display for Numbered {
     fn fmt(&self, f: &mut fmt::Formatter<'_>) -> fmt::Result {
         let accepted = self.0[0];
         let refused = self.total() - accepted;
@@ -138,7 +138,8 @@ pub struct Counts {
     pub files: Answers,
     pub decided: Calls,
     pub explained: Calls,
-    pub checked: Checks,
+    pub checked: Numbered,
+    pub written: Numbered,
     pub most_nodes: u32,
     pub most_rows: usize,
     /// In bytes.
@@ -173,6 +174,7 @@ impl Counts {
         self.decided.merge(&other.decided);
         self.explained.merge(&other.explained);
         merge_all(&mut self.checked.0, &other.checked.0);
+        merge_all(&mut self.written.0, &other.written.0);
         self.most_nodes = self.most_nodes.max(other.most_nodes);
         self.most_rows = self.most_rows.max(other.most_rows);
         self.longest_record = self.longest_record.max(other.longest_record);
@@ -186,12 +188,14 @@ impl fmt::Display for Counts {
             decided,
             explained,
             checked,
+            written,
             ..
         } = self;
         write!(f, "files {}: {files}", files.total())?;
         write!(f, "decide {}: {decided}", decided.total())?;
         write!(f, "explain {}: {explained}", explained.total())?;
         write!(f, "check {}: {checked}", checked.total())?;
+        write!(f, "write {}: {written}", written.total())?;
         let (nodes, rows, record) = (self.most_nodes, self.most_rows, self.longest_record);
         writeln!(
             f,

@@ -31,6 +31,10 @@ pub trait Desk {
     fn check(&self, file: &[u8], record: &[u8]) -> u32 {
         library::check(file, record)
     }
+
+    fn write(&self, list: &[i64], out: &mut [u8]) -> i64 {
+        raw::write_into(list, out)
+    }
 }
 
 #[derive(Clone, Copy)]
@@ -68,6 +72,14 @@ pub mod planted {
     impl<C: Fn(&[u8], &[u8]) -> u32> Desk for Check<C> {
         fn check(&self, file: &[u8], record: &[u8]) -> u32 {
             (self.0)(file, record)
+        }
+    }
+
+    pub struct Write<W>(pub W);
+
+    impl<W: Fn(&[i64], &mut [u8]) -> i64> Desk for Write<W> {
+        fn write(&self, list: &[i64], out: &mut [u8]) -> i64 {
+            (self.0)(list, out)
         }
     }
 }

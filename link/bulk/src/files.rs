@@ -2,7 +2,7 @@
 
 use oracle::encode::{bytes, Draft, Role};
 use oracle::guard::Limits;
-use oracle::random::{draft, Profile, Random, Types};
+use oracle::random::{draft, edge_value, Profile, Random, Types};
 use oracle::read::Question;
 use oracle::vectors::{broken, profiles};
 
@@ -174,22 +174,16 @@ fn any(random: &mut Random) -> Profile {
         row_kinds: weights(random),
         line_kinds: weights(random),
         deep: random.below(100),
-        values: (0..1 + random.below(4)).map(|_| value(random)).collect(),
+        values: (0..1 + random.below(4))
+            .map(|_| edge_value(random))
+            .collect(),
     }
-}
-
-/// A number for a constant, near the ends of each length that it may have.
-fn value(random: &mut Random) -> i32 {
-    let edge = 1i64 << [0, 6, 13, 20, 27, 31][random.below(6)];
-    let near = edge + random.below(5) as i64 - 2;
-    let signed = if random.percent(50) { near } else { -near };
-    signed.clamp(i64::from(i32::MIN), i64::from(i32::MAX)) as i32
 }
 
 /// A guard whose constants are random, many of them alike.
 fn values(random: &mut Random) -> Vec<u8> {
     let mut tokens = broken::whole(random).tokens(Limits::BASE);
-    let pool = [value(random), value(random), 0];
+    let pool = [edge_value(random), edge_value(random), 0];
     for token in &mut tokens {
         if token.role == Role::Value {
             token.number = oracle::number::fold(pool[random.below(pool.len())]);

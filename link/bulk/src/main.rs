@@ -15,9 +15,10 @@ mod library;
 mod mismatch;
 mod orders;
 mod smt;
+mod writes;
 
 use compare::Comparer;
-use counts::Counts;
+use counts::{Counts, Numbered};
 use desk::{Desk, Library};
 use files::Maker;
 use mismatch::Mismatch;
@@ -31,10 +32,11 @@ use std::time::Instant;
 const USAGE: &str = "\
 usage: bulk [smt] [--files N] [--seed S] [--threads T] [--limit NODES]
        bulk records FILE
+       bulk lists FILE
 N files (20000) from the seed S (1) in T threads (1). Guards of more nodes than the limit (20000, at most 1000000) are
 compared with budgets up to it only; SPENT in the line of files counts them. With smt nothing is compared: the guards are
 printed in SMT-LIB 2, each with the library's verdict, those within the limit only. With records the library's checker
-answers the lines of records.txt.";
+answers the lines of records.txt, with lists its writer those of lists.txt.";
 
 /// The stack of a thread: what a call needs, and plenty for the solver.
 const STACK: usize = 8 << 20;
@@ -141,7 +143,8 @@ fn main() -> ExitCode {
     let words: Vec<String> = std::env::args().skip(1).collect();
     let command: Vec<&str> = words.iter().map(String::as_str).collect();
     match command[..] {
-        ["records", path] => return compare_lines(path),
+        ["records", path] => return compare_lines(path, "check", checks::compare_lines),
+        ["lists", path] => return compare_lines(path, "write", writes::compare_lines),
         ["smt", ..] => options(&words[1..]).map(|options| print_smt(&options)),
         _ => options(&words).map(|options| compare_files(&options)),
     }
@@ -178,7 +181,12 @@ fn compare_files(options: &Options) -> ExitCode {
     }
 }
 
-fn compare_lines(path: &str) -> ExitCode {
+/// The lines of a file through one call of the library.
+fn compare_lines(
+    path: &str,
+    call: &str,
+    compare: fn(&Library, &str) -> Result<Numbered, String>,
+) -> ExitCode {
     let text = match fs::read_to_string(path) {
         Ok(text) => text,
         Err(error) => {
@@ -186,9 +194,9 @@ fn compare_lines(path: &str) -> ExitCode {
             return ExitCode::from(2);
         }
     };
-    match checks::compare_lines(&Library, &text) {
-        Ok(checks) => {
-            print!("check {}: {checks}", checks.total());
+    match compare(&Library, &text) {
+        Ok(counts) => {
+            print!("{call} {}: {counts}", counts.total());
             println!("all right");
             ExitCode::SUCCESS
         }
@@ -231,9 +239,15 @@ mod tests {
             assert!(calls.too_short > 0);
         }
         assert!(counts.decided.outgrown == 0 && counts.explained.outgrown > 0);
-        let answers = (0..).zip(counts.checked.0);
-        for (answer, many) in answers.filter(|(answer, _)| ![1, 11].contains(answer)) {
-            assert!(many > 0, "no record is answered {answer}");
+        // Questions that the checker and the writer don't ask.
+        let never: [(Numbered, &[usize]); 2] = [
+            (counts.checked, &[1, 11, 14]),
+            (counts.written, &[1, 11, 12, 13]),
+        ];
+        for (numbered, never) in never {
+            for (answer, many) in numbered.0.into_iter().enumerate() {
+                assert_eq!(many == 0, never.contains(&answer), "{answer}: {many}");
+            }
         }
         assert!(counts.most_nodes > 1 && counts.most_rows > 1 && counts.longest_record > 2);
     }

@@ -1,9 +1,9 @@
 //! The guard desk for Rust programs: whether a guard over message fields can hold at all and, where it can, messages that
 //! make it hold.
 //!
-//! [`decide`], [`explain`] and [`check`] are safe functions over the proved library `libdesklink.a`. What that library gives is
-//! proved for every file, budget and record; what this crate makes of it (types, text) is tested. A guard file is at most 465
-//! bytes long; its format is that of document 01.
+//! [`decide`], [`explain`], [`check`] and [`write()`] are safe functions over the proved library `libdesklink.a`. What that library
+//! gives is proved for every file, budget, record and list; what this crate makes of it (types, text) is tested. A guard file is at
+//! most 465 bytes long; its format is that of document 01.
 //!
 //! ```
 //! use guarddesk::{decide, Answer, Names};
@@ -16,7 +16,8 @@
 //! assert!(x.with_names(&names).to_string().starts_with("cons("));
 //! ```
 //!
-//! [`explain`] has the branches of a guard that cannot hold, and [`check`] takes their record.
+//! [`explain`] has the branches of a guard that cannot hold, and [`check`] takes their record. [`write()`] makes guard files from
+//! lists of their numbers.
 //!
 //! A call needs 820 KB of stack: the main thread and threads that [`std::thread::spawn`] makes by default have more.
 
@@ -25,9 +26,11 @@ mod messages;
 mod numbers;
 pub mod raw;
 mod refutations;
+mod writer;
 
 pub use messages::{Kind, Message, Messages, Named, Names, Parts};
 pub use refutations::{check, Branch, Question, Reason, Refutation, Term};
+pub use writer::{write, Refusal};
 
 use std::fmt;
 

@@ -1,6 +1,6 @@
-//! The library's three functions over the caller's own buffers, for programs that keep buffers between calls or look at every
-//! number of them. The only unsafe code of the crate. [`decide`](crate::decide), [`explain`](crate::explain) and
-//! [`check`](crate::check) are easier to use.
+//! The library's four functions over the caller's own buffers, for programs that keep buffers between calls or look at every
+//! number of them. The only unsafe code of the crate. [`decide`](crate::decide), [`explain`](crate::explain),
+//! [`check`](crate::check) and [`write`](crate::write) are easier to use.
 //!
 //! ```
 //! use guarddesk::raw::{decide_into, ANSWERED, ANSWER_LENGTH, PLACES_LENGTH, ROWS_LENGTH, SAT};
@@ -21,6 +21,9 @@ pub const PLACES_LENGTH: usize = 24;
 pub const ANSWER_LENGTH: usize = 3;
 /// How many bytes of a record suffice for each node of the node count.
 pub const RECORD_BYTES_PER_NODE: usize = 3;
+
+/// How many bytes suffice for every guard file.
+pub const FILE_LENGTH: usize = 465;
 
 /// The call was answered.
 pub const ANSWERED: u32 = 0;
@@ -72,6 +75,13 @@ extern "C" {
         record: *const u8,
         record_length: usize,
     ) -> u32;
+
+    fn guarddesk_write(
+        list: *const i64,
+        list_length: usize,
+        out: *mut u8,
+        out_length: usize,
+    ) -> i64;
 }
 
 /// Decides a guard file within a budget of nodes. Buffers of any length are safe.
@@ -147,6 +157,17 @@ pub fn check(file: &[u8], record: &[u8]) -> u32 {
     // SAFETY: each pointer and length is that of a slice that nobody writes meanwhile. The function has no other condition, keeps
     // no pointer and does not unwind.
     unsafe { guarddesk_check(file.as_ptr(), file.len(), record.as_ptr(), record.len()) }
+}
+
+/// Writes the guard file of a list of its numbers in front of `out`, constants as their values. A list and a buffer of any length
+/// are safe.
+///
+/// It returns the number of bytes of the file; those behind them are zero. [`FILE_LENGTH`] bytes always suffice. A number below 0 is
+/// minus the first question that got a no, 2 to 10 of the list, or 14 if the file outgrows `out`; then all of `out` is zero.
+#[allow(unsafe_code)]
+pub fn write_into(list: &[i64], out: &mut [u8]) -> i64 {
+    // SAFETY: as in `decide_into`; `out` is written and borrowed mutably.
+    unsafe { guarddesk_write(list.as_ptr(), list.len(), out.as_mut_ptr(), out.len()) }
 }
 
 #[cfg(test)]
@@ -234,6 +255,40 @@ mod tests {
             assert_eq!(many, None);
             assert!(shown.iter().all(|&n| n == 7) && record.iter().all(|&n| n == 7));
             assert!(answer.iter().all(|&n| n == 7));
+        }
+    }
+
+    // The dead guard as a list: -3 and 4 are themselves.
+    const DEAD_LIST: &[i64] = &[1, 0, 2, 1, 0, -3, 1, 0, 4, 1, 0, 0, 1];
+
+    #[test]
+    fn a_file_has_zeros_behind_it() {
+        for room in [DEAD.len(), DEAD.len() + 1, FILE_LENGTH, 1000] {
+            let mut out = vec![7; room];
+            assert_eq!(write_into(DEAD_LIST, &mut out), DEAD.len() as i64);
+            assert_eq!(&out[..DEAD.len()], DEAD);
+            assert!(out[DEAD.len()..].iter().all(|&n| n == 0));
+        }
+    }
+
+    #[test]
+    fn a_file_that_does_not_fit_is_question_14() {
+        for room in 0..DEAD.len() {
+            let mut out = vec![7; room];
+            assert_eq!(write_into(DEAD_LIST, &mut out), -14);
+            assert!(out.iter().all(|&n| n == 0));
+        }
+    }
+
+    #[test]
+    fn a_refused_list_leaves_zeros() {
+        for room in [0, 1, FILE_LENGTH] {
+            let mut out = vec![7; room];
+            assert_eq!(write_into(&[], &mut out), -2);
+            assert!(out.iter().all(|&n| n == 0));
+            out.fill(7);
+            assert_eq!(write_into(&[DEAD_LIST, &[0]].concat(), &mut out), -10);
+            assert!(out.iter().all(|&n| n == 0));
         }
     }
 }

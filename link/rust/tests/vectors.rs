@@ -1,6 +1,6 @@
-//! All vectors of the repository through the library: verdicts and their numbers, records, and what the checker says of others are
-//! those of the outside solver; and the records that the library writes are accepted.
-use guarddesk::{check, decide, explain, Answer, Branch, Question};
+//! All vectors of the repository through the library: verdicts and their numbers, records, what the checker says of others, and files
+//! written from lists are those of the outside solver; and the records that the library writes are accepted.
+use guarddesk::{check, decide, explain, raw, write, Answer, Branch, Question, Refusal};
 
 const VECTORS: &str = concat!(env!("CARGO_MANIFEST_DIR"), "/../../vectors");
 
@@ -65,6 +65,31 @@ fn check_all() {
     });
 }
 
+fn write_all() {
+    for_each_line("lists.txt", 1000, |[name, room, list, expected]| {
+        let list = if list == "-" { "" } else { list };
+        let numbers = list.split_whitespace().map(|word| word.parse().unwrap());
+        let numbers: Vec<i64> = numbers.collect();
+        let expected = match expected.strip_prefix("REFUSED ") {
+            Some(question) => Err(Refusal(question.parse().unwrap())),
+            None => Ok(bytes(expected)),
+        };
+        let mut out = vec![7; room.parse().unwrap()];
+        let code = raw::write_into(&numbers, &mut out);
+        let front = match &expected {
+            Ok(file) => (file.len() as i64, &file[..]),
+            Err(refusal) => (-i64::from(refusal.0), &[][..]),
+        };
+        assert_eq!((code, &out[..front.1.len()]), front, "{name}");
+        assert!(out[front.1.len()..].iter().all(|&n| n == 0), "{name}");
+        // Every file fits there.
+        match write(&numbers) {
+            Ok(file) if expected == Err(Refusal(14)) => assert!(file.len() > out.len(), "{name}"),
+            written => assert_eq!(written, expected, "{name}"),
+        }
+    });
+}
+
 /// In a thread with the stack that the crate's documentation asks for.
 fn in_the_stack_asked_for(run: fn()) {
     let thread = std::thread::Builder::new().stack_size(820 * 1024);
@@ -84,6 +109,11 @@ fn records_of_all_vectors() {
 #[test]
 fn the_checkers_answers() {
     in_the_stack_asked_for(check_all);
+}
+
+#[test]
+fn files_of_all_lists() {
+    in_the_stack_asked_for(write_all);
 }
 
 #[test]

@@ -111,9 +111,8 @@ pub(super) fn wrong_form(random: &mut Random, number: &[u8]) -> Vec<u8> {
     }
 }
 
-/// Types that are likely to lack a default or a field that can grow; the file
-/// stops after them or goes on.
-pub fn bad_types(random: &mut Random) -> Vec<u8> {
+/// Types that are likely to lack a default or a field that can grow.
+pub(super) fn weak_types(random: &mut Random) -> Draft {
     let many = 1 + random.below(6);
     let mut draft = Draft::default();
     for _ in 0..many {
@@ -130,7 +129,12 @@ pub fn bad_types(random: &mut Random) -> Vec<u8> {
         }
         draft.types.push(ty);
     }
-    let mut file = draft.bytes();
+    draft
+}
+
+/// A file of such types, which stops after them or goes on.
+pub fn bad_types(random: &mut Random) -> Vec<u8> {
+    let mut file = weak_types(random).bytes();
     let keep = file.len() - 2;
     match random.below(3) {
         0 => file.truncate(keep),

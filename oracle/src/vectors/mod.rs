@@ -3,6 +3,7 @@
 pub mod broken;
 mod cases;
 mod families;
+pub mod lists;
 mod numbers;
 pub mod profiles;
 pub mod records;
@@ -11,10 +12,14 @@ mod walks;
 use crate::answer::{answer, Answer};
 use crate::encode::Draft;
 use crate::guard::Limits;
+use crate::random::Random;
 use crate::text;
 
 /// The budget of the program `guarddesk`.
 pub const USUAL_BUDGET: u32 = 1_000_000;
+
+/// Enough for each family that is drawn.
+const MOST_DRAWS: usize = 10_000;
 
 const HEADER: &str = "\
 # Guard files with their expected answers, written by `oracle vectors`.
@@ -62,6 +67,24 @@ pub fn all() -> Vec<Vector> {
     set.0
 }
 
+/// Draws from the named generator until there are so many different ones.
+fn different<T: PartialEq>(
+    name: &str,
+    many: usize,
+    mut make: impl FnMut(&mut Random) -> Option<T>,
+) -> Result<Vec<T>, String> {
+    let mut random = Random::named(name);
+    let mut made = Vec::new();
+    for _ in 0..MOST_DRAWS {
+        let new = make(&mut random);
+        made.extend(new.filter(|new| !made.contains(new)));
+        if made.len() == many {
+            return Ok(made);
+        }
+    }
+    Err(format!("{name}: the vectors give only {}", made.len()))
+}
+
 /// The vectors as the text of `vectors.txt`.
 pub fn text(vectors: &[Vector]) -> String {
     let mut text = HEADER.to_string();
@@ -93,11 +116,14 @@ fn parse_lines<T>(
         .collect()
 }
 
-fn parse_line(line: &str) -> Option<Vector> {
+/// The columns of a line; there are four in each file.
+fn columns(line: &str) -> Option<[&str; 4]> {
     let columns: Vec<&str> = line.split('\t').collect();
-    let [name, budget, hex, answer] = columns[..] else {
-        return None;
-    };
+    columns.try_into().ok()
+}
+
+fn parse_line(line: &str) -> Option<Vector> {
+    let [name, budget, hex, answer] = columns(line)?;
     Some(Vector {
         name: name.to_string(),
         budget: budget.parse().ok()?,

@@ -14,8 +14,6 @@ use crate::record;
 
 /// Records for each question about the file.
 const EACH_QUESTION: usize = 2;
-/// Enough for each family.
-const MOST_DRAWS: usize = 10_000;
 
 const HEADER: &str = "\
 # Guard files and records with the checker's answers, written by `oracle records`.
@@ -126,20 +124,9 @@ impl Set {
         name: &str,
         many: usize,
         expected: Option<u8>,
-        mut make: impl FnMut(&mut Random) -> Option<(Vec<u8>, Vec<u8>)>,
+        make: impl FnMut(&mut Random) -> Option<(Vec<u8>, Vec<u8>)>,
     ) -> Result<(), String> {
-        let mut random = Random::named(&format!("records-{name}"));
-        let mut made = Vec::new();
-        for _ in 0..MOST_DRAWS {
-            let new = make(&mut random);
-            made.extend(new.filter(|new| !made.contains(new)));
-            if made.len() == many {
-                break;
-            }
-        }
-        if made.len() < many {
-            return Err(format!("{name}: the vectors give only {}", made.len()));
-        }
+        let made = super::different(&format!("records-{name}"), many, make)?;
         for (i, (file, record)) in made.into_iter().enumerate() {
             self.add(format!("{name}-{i:02}"), &file, record, expected)?;
         }
@@ -204,10 +191,7 @@ pub fn parse(text: &str) -> Result<Vec<Checked>, String> {
 }
 
 fn parse_line(line: &str) -> Option<Checked> {
-    let columns: Vec<&str> = line.split('\t').collect();
-    let [name, file, record, answer] = columns[..] else {
-        return None;
-    };
+    let [name, file, record, answer] = super::columns(line)?;
     Some(Checked {
         name: name.to_string(),
         file: unhex(file)?,

@@ -68,15 +68,9 @@ impl Source {
 
     /// The file without one line, if there is a line.
     pub fn file_with_a_line_less(&self, random: &mut Random) -> Option<Vec<u8>> {
-        let mut lines = self.guard.lines.clone();
-        let places: Vec<usize> = (0..lines.len()).collect();
-        lines.remove(random.pick(&places)?);
-        let draft = Draft {
-            types: self.guard.types.clone(),
-            rows: self.guard.rows.clone(),
-            row_types: self.guard.row_types.clone(),
-            lines,
-        };
+        let mut draft = Draft::of(&self.guard);
+        let places: Vec<usize> = (0..draft.lines.len()).collect();
+        draft.lines.remove(random.pick(&places)?);
         Some(draft.bytes())
     }
 }

@@ -1,0 +1,69 @@
+//! Guard files from lists of their numbers.
+
+use crate::raw;
+use std::fmt;
+
+/// The first question about a list of numbers that got a no.
+#[derive(Clone, Copy, Debug, PartialEq, Eq)]
+pub struct Refusal(pub u32);
+
+impl fmt::Display for Refusal {
+    fn fmt(&self, f: &mut fmt::Formatter<'_>) -> fmt::Result {
+        let why = match self.0 {
+            2 => "the list ends before the guard does",
+            3 => "a constant is beyond 32 bits",
+            4 => "a count is outside its limits",
+            5 => "something named is not there",
+            6 => "a kind is none of those listed",
+            7 => "a type does not fit",
+            8 => "a type has no default",
+            9 => "a variant with fields has none of infinite type",
+            10 => "numbers follow the last line",
+            _ => "the file does not fit into its buffer",
+        };
+        write!(f, "question {}: {why}", self.0)
+    }
+}
+
+impl std::error::Error for Refusal {}
+
+/// Writes the guard file of a list of its numbers, in file order and constants as their values. The desk takes what is written, and
+/// reads these numbers from it; that is proved, and that the numbers of a file that it takes are written as that file.
+///
+/// ```
+/// use guarddesk::{decide, write, Answer, Refusal};
+///
+/// // A number type; the numbers -3 and 4; a line that says they are equal.
+/// let file = write(&[1, 0, 2, 1, 0, -3, 1, 0, 4, 1, 0, 0, 1])?;
+/// assert_eq!(decide(&file, 1), Answer::Unsat { nodes: 1 });
+/// // There is one type, so none is numbered 1.
+/// assert_eq!(write(&[1, 0, 1, 0, 1, 0]), Err(Refusal(5)));
+/// # Ok::<(), Refusal>(())
+/// ```
+pub fn write(numbers: &[i64]) -> Result<Vec<u8>, Refusal> {
+    let mut file = vec![0; raw::FILE_LENGTH];
+    let code = raw::write_into(numbers, &mut file);
+    match usize::try_from(code) {
+        Ok(many) => {
+            file.truncate(many);
+            Ok(file)
+        }
+        Err(_) => Err(Refusal(code.unsigned_abs() as u32)),
+    }
+}
+
+#[cfg(test)]
+mod tests {
+    use super::*;
+
+    #[test]
+    fn refusals_say_why() {
+        let why = |numbers: &[i64]| write(numbers).unwrap_err().to_string();
+        assert_eq!(why(&[7]), "question 4: a count is outside its limits");
+        assert_eq!(why(&[-1]), "question 4: a count is outside its limits");
+        let beyond = [1, 0, 1, 1, 0, 1 << 31, 0];
+        assert_eq!(why(&beyond), "question 3: a constant is beyond 32 bits");
+        let longer = "question 10: numbers follow the last line";
+        assert_eq!(why(&[0, 0, 0, i64::MIN]), longer);
+    }
+}
