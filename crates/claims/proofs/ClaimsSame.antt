@@ -1,7 +1,7 @@
 -- The tests by a guard's arrays are the claims of request #101. Assumes nothing.
 use mathlib.Core.Path.{_≡_, refl, ap, subst, sym, _∙_}
 use mathlib.Core.Bool.{Bool, true, not, _&&_}
-use mathlib.Core.List.{List, map, List·Memᴰ}
+use mathlib.Core.List.{List, List·Memᴰ}
 use Prim.Native.Nat.{ℕ, zero, suc, _-_, _^_, _≤_, _<_}
 use native.Mathlib.Nat.{pow-suc}
 use native.Mathlib.Omega.{arith}
@@ -13,7 +13,7 @@ use Rattle.laws.specs.Lists.{any}
 use Rattle.laws.proofs.Bits.{bit-le}
 use Rattle.laws.proofs.Bools.{and-both, and-left, and-right, by-test}
 use Rattle.guard.specs.Closure.{State, buildsAt, classOf, labelOf}
-use Rattle.guard.specs.Guard.{Guard, Literal, Literal.equal, Literal.is, Literal.isnt, Literal.unequal}
+use Rattle.guard.specs.Guard.{Guard, Literal, Literal.equal, Literal.is}
 use Rattle.guard.specs.Limits.{Limits, Supported, totalVariantLimit, variantLimit}
 use Rattle.guard.specs.Node.{broken, emptyLabel, holdsAnother, insideItself, unlikeConstants}
 use Rattle.guard.specs.Terms.{Table, Term, tableOf, termCount}
@@ -21,9 +21,7 @@ use Rattle.guard.specs.Types.{variantsOf}
 use Rattle.guard.specs.WellFormed.{WellFormed}
 use Rattle.guard.proofs.ClosureState.{Small}
 use Rattle.guard.proofs.NodeLaws.{holds-it}
-use Rattle.tables.specs.Layout.{flat, literalKind, literalOther, literalTable, literalTerm, pad, rowTable}
-use Rattle.tables.proofs.Columns.{pad-get}
-use Rattle.tables.proofs.Lookups.{map-at}
+use Rattle.tables.specs.Layout.{flat, literalTable, rowTable}
 use Rattle.classes.specs.Held.{Held}
 use Rattle.loops.proofs.Loops.{both}
 use Rattle.loops.proofs.Tests.{yes-and}
@@ -34,6 +32,7 @@ use Rattle.arrays.proofs.DueLaws.{is-nonzero, nonzero-is}
 use Rattle.arrays.proofs.GuardSlots.{sort-slots}
 use Rattle.arrays.proofs.TableSlots.{SortSlots}
 use Rattle.reasons.specs.Reasons.{brokenAt, emptyAt}
+use Rattle.reasons.proofs.ReasonLaws.{broken-at}
 use Rattle.cycles.specs.Cycles.{Tells}
 use Rattle.cycles.proofs.CycleLaws.{inside-is, is-inside}
 use Rattle.refutations.specs.Record.{Entry.splitOn, claim, lineAt, named}
@@ -46,22 +45,9 @@ use Rattle.unlikeconstants.proofs.UnlikeLaws.{unlike-same}
 -- ---- lines
 
 module _ (ls : List Literal) where
-  column : (f : Literal → ℕ) (j : ℕ) → j < length ls → getD (pad 64 (map f ls)) j 0 ≡ f (lineAt ls j)
-  column f j h = pad-get 0 64 j (map f ls) ∙ map-at f ls j (equal 0 0) 0 h
-
-  broken-there : (s : State) (j : ℕ) → j < length ls → brokenAt (literalTable ls .kinds) (literalTable ls .terms) (literalTable ls .others) (s .classes) j ≡ broken s (lineAt ls j)
-  unfolding brokenAt literalTable
-  broken-there s j h = rw (column literalKind j h, column literalTerm j h, column literalOther j h) (of (lineAt ls j))
-    where
-      of : (l : Literal) → (eqb (literalKind l) 1 && eqb (getD (s .classes) (literalTerm l) 0) (getD (s .classes) (literalOther l) 0)) ≡ broken s l
-      of (equal a b) = refl
-      of (unequal a b) = refl
-      of (is a v) = refl
-      of (isnt a v) = refl
-
   broken-same : (s : State) (j : ℕ) → (ltb j (length ls) && brokenAt (literalTable ls .kinds) (literalTable ls .terms) (literalTable ls .others) (s .classes) j) ≡ broken s (lineAt ls j)
   broken-same s j =
-      by-test (ltb j (length ls)) (λ e. sym (yes-and _ e) ∙ broken-there s j (ltb-true _ _ e))
+      by-test (ltb j (length ls)) (λ e. sym (yes-and _ e) ∙ broken-at ls s j (ltb-true _ _ e))
       (λ e. ap (λ (b : Bool). b && brokenAt (literalTable ls .kinds) (literalTable ls .terms) (literalTable ls .others) (s .classes) j) e ∙ sym (ap (broken s) (List·getD-eq-default ls (equal 0 0) (ltb-false j (length ls) e))))
 
 -- a full mask is 0 where there are no variants

@@ -2,7 +2,7 @@
 -- whose claim holds. Assumes nothing.
 use mathlib.Core.Path.{_≡_, refl, ap, ap₂, sym, _∙_}
 use mathlib.Core.Bool.{Bool, true, false, not, _&&_, cond}
-use mathlib.Core.List.{List, map}
+use mathlib.Core.List.{List}
 use mathlib.Core.Option.{Option, none, some}
 use Prim.Native.Nat.{ℕ, zero, suc, _-_, _^_, _≤_, _<_}
 use native.Mathlib.Nat.{pow-suc}
@@ -14,10 +14,10 @@ use borrow.Author.Tests.{eq-eqb, le-ltb, lt-ltb, ne-eqb}
 use Rattle.laws.specs.Lists.{any}
 use Rattle.laws.proofs.Bools.{by-test}
 use Rattle.laws.proofs.Positions.{least}
-use Rattle.guard.specs.Closure.{State, buildsAt, classOf, closureOf, labelOf}
-use Rattle.guard.specs.Guard.{Guard, Literal, Literal.equal, Literal.is, Literal.isnt, Literal.unequal}
+use Rattle.guard.specs.Closure.{State, buildsAt, closureOf, labelOf}
+use Rattle.guard.specs.Guard.{Guard, Literal, Literal.is}
 use Rattle.guard.specs.Limits.{Limits, Supported, totalVariantLimit}
-use Rattle.guard.specs.Node.{broken, emptyLabel, insideItself}
+use Rattle.guard.specs.Node.{emptyLabel, insideItself}
 use Rattle.guard.specs.Terms.{Table, Term, tableOf, termCount}
 use Rattle.guard.specs.Types.{variantsOf}
 use Rattle.guard.specs.WellFormed.{WellFormed}
@@ -26,9 +26,7 @@ use Rattle.guard.proofs.ClosureBelow.{InRange}
 use Rattle.guard.proofs.ClosureState.{Small}
 use Rattle.guard.proofs.TableLaws.{literals-in-range, table-in-range}
 use Rattle.models.proofs.Nodes.{NodeOf}
-use Rattle.tables.specs.Layout.{flat, literalKind, literalOther, literalTable, literalTerm, pad, rowTable}
-use Rattle.tables.proofs.Columns.{pad-get}
-use Rattle.tables.proofs.Lookups.{map-at}
+use Rattle.tables.specs.Layout.{flat, literalTable, rowTable}
 use Rattle.classes.specs.Held.{Held}
 use Rattle.loops.specs.Lowest.{lowest}
 use Rattle.loops.proofs.Loops.{both}
@@ -38,11 +36,12 @@ use Rattle.arrays.proofs.SlotLaws.{full-at, full-none}
 use Rattle.arrays.specs.Slots.{sortAt}
 use Rattle.arrays.proofs.GuardSlots.{sort-slots}
 use Rattle.arrays.proofs.TableSlots.{SortSlots}
+use Rattle.reasons.proofs.ReasonLaws.{broken-at}
 use Rattle.reasons.specs.Reasons.{brokenAt, emptyAt}
 use Rattle.cycles.specs.Cycles.{Inside, LowestOf, insideTerm}
 use Rattle.cycles.proofs.CycleLaws.{named}
 use Rattle.refutations.specs.Record as records
-use Rattle.refutations.specs.Record.{Entry, Entry.empty, Entry.inside, Entry.unequalLine, Entry.unlike, claim, closing, lineAt}
+use Rattle.refutations.specs.Record.{Entry, Entry.empty, Entry.inside, Entry.unequalLine, Entry.unlike, claim, closing}
 use Rattle.refutations.proofs.ClaimLaws.{any-named, of-term, term-of}
 use Rattle.refutations.proofs.LowestClosing.{closing-lowest, lowestOr}
 use Rattle.closings.specs.declared.Closing.{Closing}
@@ -84,21 +83,6 @@ module _ (t : Table) (sorts masks : List ℕ) (slots : SortSlots t sorts masks) 
 -- ---- lines
 
 module _ (lines : List Literal) where
-  column-at : (f : Literal → ℕ) (j : ℕ) → j < length lines → getD (pad 64 (map f lines)) j 0 ≡ f (lineAt lines j)
-  column-at f j h = pad-get 0 64 j (map f lines) ∙ map-at f lines j (equal 0 0) 0 h
-
-  broken-at : (s : State) (j : ℕ) → j < length lines → broken s (lineAt lines j) ≡ brokenAt (literalTable lines .kinds) (literalTable lines .terms) (literalTable lines .others) (s .classes) j
-  unfolding brokenAt literalTable
-  broken-at s j h =
-      of (lineAt lines j)
-      ∙ sym (ap₂ (λ (k : ℕ) (b : Bool). eqb k 1 && b) (column-at literalKind j h) (ap₂ (λ (a b : ℕ). eqb (classOf s a) (classOf s b)) (column-at literalTerm j h) (column-at literalOther j h)))
-    where
-      of : (l : Literal) → broken s l ≡ (eqb (literalKind l) 1 && eqb (classOf s (literalTerm l)) (classOf s (literalOther l)))
-      of (equal a b) = refl
-      of (unequal a b) = refl
-      of (is a v) = refl
-      of (isnt a v) = refl
-
   many-is : literalTable lines .many ≡ length lines
   unfolding literalTable
   many-is = refl
@@ -153,7 +137,7 @@ module _ (limits : Limits) (sup : Supported limits) (g : Guard) (ok : WellFormed
   unfolding lowest
   lowest-broken =
       least-same _ _ (length lines)
-      (λ j h. sym (same-claim (unequalLine j)) ∙ broken-at lines s j h)
+      (λ j h. sym (same-claim (unequalLine j)) ∙ sym (broken-at lines s j h))
       ∙ ap (least (brokenAt (literalTable lines .kinds) (literalTable lines .terms) (literalTable lines .others) (s .classes))) (sym (many-is lines))
 
   -- ---- classes

@@ -195,13 +195,16 @@ module _ (t : Table) (ranged : InRange t) (s s′ : State) (agree : Agrees s s�
   same-agrees : (i j : ℕ) → i < termCount → j < termCount → sameClass s i j ≡ sameClass s′ i j
   same-agrees i j hi hj = ap₂ eqb (agree .class i hi) (agree .class j hj)
 
-  broken-agrees : (l : Literal) → LiteralInRange l → broken s l ≡ broken s′ l
+  pub empty-agrees : (x : Term) → List·Memᴰ x (t .terms) → emptyLabel t s x ≡ emptyLabel t s′ x
+  empty-agrees x m = ap (λ (l : ℕ). not (isNumber (t .types) (x .type)) && eqb l 0) (agree .label (x .term) (ranged .terms x m .0))
+
+  pub broken-agrees : (l : Literal) → LiteralInRange l → broken s l ≡ broken s′ l
   broken-agrees (equal i j) h = refl
   broken-agrees (unequal i j) h = same-agrees i j (h .0) (h .1)
   broken-agrees (is i v) h = refl
   broken-agrees (isnt i v) h = refl
 
-  unlike-agrees : (x : Term) → List·Memᴰ x (t .terms) → unlikeConstants t s x ≡ unlikeConstants t s′ x
+  pub unlike-agrees : (x : Term) → List·Memᴰ x (t .terms) → unlikeConstants t s x ≡ unlikeConstants t s′ x
   unlike-agrees x m =
       any-cong _ _ (t .consts) (λ a ma. any-cong _ _ (t .consts) (λ b mb.
       ap₂ (λ (p q : Bool). p && (q && not (eqZ (a .value) (b .value)))) (same-agrees (x .term) (a .term) (ranged .terms x m .0) (ranged .consts a ma))
@@ -231,12 +234,15 @@ module _ (t : Table) (ranged : InRange t) (s s′ : State) (agree : Agrees s s�
         let e = agree .class (x .term) (ranged .terms x m .0) in
         ap₂ member e (reached-agree k _ ∙ ap (λ (ps : List ℕ). reached k s′ bs (union ps [])) (parts-agree (classOf s (x .term)) ∙ ap (partsOf s′ bs) e))
 
+-- a class inside itself, at either state's own builds
+pub inside-itself-agrees : (t : Table) → InRange t → (s s′ : State) → Agrees s s′ → (x : Term) → List·Memᴰ x (t .terms) → insideItself s (buildsAt t s) x ≡ insideItself s′ (buildsAt t s′) x
+inside-itself-agrees t ranged s s′ agree x m =
+    inside-agrees t ranged s s′ agree (buildsAt t s) (builds-in-range t ranged s) termCount x m ∙ ap (λ (bs : List Build). insideItself s′ bs x) (builds-agree t ranged s s′ agree)
+
 pub closed-agrees : (t : Table) (ls : List Literal) → InRange t → LiteralsInRange ls → (s s′ : State) → Agrees s s′ → isClosed t ls s ≡ isClosed t ls s′
 unfolding isClosed
 closed-agrees t ls ranged literalsIn s s′ agree =
-    ap₂ _||_ (any-cong (emptyLabel t s) (emptyLabel t s′) (t .terms) (λ x m. ap (λ (l : ℕ). not (isNumber (t .types) (x .type)) && eqb l 0) (agree .label (x .term) (ranged .terms x m .0))))
+    ap₂ _||_ (any-cong (emptyLabel t s) (emptyLabel t s′) (t .terms) (empty-agrees t ranged s s′ agree))
     (ap₂ _||_ (any-cong (broken s) (broken s′) ls (λ l m. broken-agrees t ranged s s′ agree l (literalsIn l m)))
     (ap₂ _||_ (any-cong (unlikeConstants t s) (unlikeConstants t s′) (t .terms) (unlike-agrees t ranged s s′ agree))
-    (any-cong (insideItself s (buildsAt t s)) (insideItself s′ (buildsAt t s)) (t .terms)
-    (inside-agrees t ranged s s′ agree (buildsAt t s) (builds-in-range t ranged s) termCount)
-    ∙ ap (λ (bs : List Build). any (insideItself s′ bs) (t .terms)) (builds-agree t ranged s s′ agree))))
+    (any-cong (insideItself s (buildsAt t s)) (insideItself s′ (buildsAt t s′)) (t .terms) (inside-itself-agrees t ranged s s′ agree))))

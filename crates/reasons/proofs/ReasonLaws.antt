@@ -49,7 +49,7 @@ module _ (ls : List Literal) where
   column-at : (f : Literal → ℕ) (j : ℕ) → j < length ls → getD (pad 64 (map f ls)) j 0 ≡ f (getD ls j noLiteral)
   column-at f j h = pad-get 0 64 j (map f ls) ∙ map-at f ls j noLiteral 0 h
 
-  broken-at : (s : State) (j : ℕ) → j < length ls → brokenAt (literalTable ls .kinds) (literalTable ls .terms) (literalTable ls .others) (s .classes) j ≡ broken s (getD ls j noLiteral)
+  pub broken-at : (s : State) (j : ℕ) → j < length ls → brokenAt (literalTable ls .kinds) (literalTable ls .terms) (literalTable ls .others) (s .classes) j ≡ broken s (getD ls j noLiteral)
   unfolding brokenAt literalTable
   broken-at s j h =
       ap₂ (λ (k : ℕ) (b : Bool). eqb k 1 && b) (column-at literalKind j h) (ap₂ (λ (a b : ℕ). eqb (getD (s .classes) a 0) (getD (s .classes) b 0)) (column-at literalTerm j h) (column-at literalOther j h))
