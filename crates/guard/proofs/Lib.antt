@@ -5,6 +5,7 @@ pub mod LeastClosure
 pub mod AnyOrder
 pub mod Agreement
 pub mod Reading
+pub mod WordLaws
 pub mod Accepted
 pub mod MessageLaws
 pub mod DefaultLaws

@@ -13,5 +13,6 @@ pub mod Closure
 pub mod Node
 pub mod Search
 pub mod Answer
+pub mod Words
 pub mod Shown
 pub mod Cases

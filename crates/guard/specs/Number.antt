@@ -56,6 +56,11 @@ pub record Width : Type 0 where
 abbrev pub width32 : Width
 width32 = record { bytes = 5; most = 4294967295 }
 
+-- document 02, #104: "Signed values now run over 64 bits, with up to ten bytes and at most 18,446,744,073,709,551,615 as
+-- written"; "Counts and names keep five."
+abbrev pub width64 : Width
+width64 = record { bytes = 10; most = 18446744073709551615 }
+
 -- question 2: "Is the number's last byte in the file? A fifth byte with bit 80 set counts here as its end."
 abbrev pub groups : ℕ → Parser (List ℕ)
 groups zero bs = accepted [] bs
