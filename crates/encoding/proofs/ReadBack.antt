@@ -11,7 +11,7 @@ use lib.ListN.{length}
 use borrow.Author.Tests.{le-leb, le-ltb, lt-ltb, ltb-false, ltb-true, ne-eqb}
 use Rattle.laws.specs.Lists.{last}
 use Rattle.laws.proofs.Bools.{and-both, or-right}
-use Rattle.guard.specs.Number.{Parsed.accepted, Width, andThen, groups, return, unsigned, unsignedOf, valueOfGroups, valueWidth, wellFormed, width32}
+use Rattle.guard.specs.Number.{Parsed.accepted, Width, andThen, groups, return, unsigned, unsignedOf, valueOfGroups, valueWidth, wellFormed, width32, width64}
 use Rattle.encoding.specs.Encoding.{encoded, encodedOf, encodedValue, groupsOf}
 
 -- a claim about the groups of a number, by its size
@@ -49,6 +49,13 @@ groups-length (suc k) n = by-size (λ gs. length gs ≤ suc k) k n (λ l. omega 
 pub some-group : (k n : ℕ) → 1 ≤ length (groupsOf (suc k) n)
 some-group k n = by-size (λ gs. 1 ≤ length gs) k n (λ l. omega arith) (λ l. omega arith)
 
+-- more bytes allowed are no more bytes, where fewer suffice
+same-groups : (k m n : ℕ) → k ≤ m → n < 128 ^ suc k → groupsOf (suc m) n ≡ groupsOf (suc k) n
+same-groups zero m n l h = rw (lt-ltb n 128 (omega arith)) refl
+same-groups (suc k) zero n l h = absurd (omega arith)
+same-groups (suc k) (suc m) n l h =
+    ap (λ (gs : List ℕ). cond (ltb n 128) (n ∷ []) ((128 + n % 128) ∷ gs)) (same-groups k m (n / 128) (omega arith) (rest-fits (suc k) n h))
+
 -- numbers up to the most that a width allows, where its bytes suffice for them
 module _ (w : Width) (fits : w .most < 128 ^ (w .bytes)) where
   well-formed : (n : ℕ) → n ≤ w .most → wellFormed w (encodedOf w n) ≡ true
@@ -83,6 +90,11 @@ at-most-five n = groups-length 5 n
 pub one-byte : (n : ℕ) → n < 128 → encoded n ≡ n ∷ []
 unfolding encoded
 one-byte n h = rw (lt-ltb n 128 h) refl
+
+-- a number of 32 bits is written in 64 bits as it is in 32
+pub same-encoded : (n : ℕ) → n ≤ 4294967295 → encodedOf width64 n ≡ encoded n
+unfolding encoded
+same-encoded n h = same-groups 4 9 n (omega arith) (omega arith)
 
 -- ---- values
 

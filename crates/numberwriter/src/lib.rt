@@ -3,13 +3,14 @@ use bytebuffer::End;
 ghost use mathlib.Core.Path.{_≡_};
 ghost use Prim.Native.Nat.{_≤_};
 ghost use lib.ListN.{length};
-ghost use Rattle.encoding.specs.Encoding.{encoded};
+ghost use Rattle.guard.specs.Number.{width64};
+ghost use Rattle.encoding.specs.Encoding.{encoded, encodedOf};
 ghost use Rattle.bytebuffer.specs.Puts.{Puts};
 
-// The bytes of a number from place `at` on, if they fit.
-pub fn put_number(out: &mut [u8], at: usize, n: u32) -> End
+// The bytes of a number of 64 bits from place `at` on, if they fit: up to ten, as the values of document 02's request #104 have.
+pub fn put_value(out: &mut [u8], at: usize, n: u64) -> End
     requires { ⌜ at ≤ length (now out) ⌝ }
-    ensures { λ r. ⌜ Puts (encoded n) (now (out .entry)) at r (now (out .exit)) ⌝ }
+    ensures { λ r. ⌜ Puts (encodedOf width64 n) (now (out .entry)) at r (now (out .exit)) ⌝ }
 {
     let mut rest = n;
     let mut next = at;
@@ -29,4 +30,12 @@ pub fn put_number(out: &mut [u8], at: usize, n: u32) -> End
         fits: true,
         at: next + 1,
     }
+}
+
+// The bytes of a number from place `at` on, if they fit. They are those that it has among numbers of 64 bits.
+pub fn put_number(out: &mut [u8], at: usize, n: u32) -> End
+    requires { ⌜ at ≤ length (now out) ⌝ }
+    ensures { λ r. ⌜ Puts (encoded n) (now (out .entry)) at r (now (out .exit)) ⌝ }
+{
+    put_value(out, at, n as u64)
 }
