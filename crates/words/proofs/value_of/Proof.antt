@@ -75,19 +75,4 @@ returns-2 c =
 
 pub value-of-spec : {M : Type 1} → statement M
 value-of-spec =
-    tie.close
-    (tie.spec
-    unsigned-word-requires
-    sub-above
-    cast-above
-    mul-result
-    sub-result
-    add-result
-    cast-result
-    sub-result-2
-    returns
-    cast-result-2
-    mul-result-2
-    add-result-2
-    cast-result-3
-    returns-2)
+    tie.close (tie.spec unsigned-word-requires sub-above cast-above mul-result sub-result add-result cast-result sub-result-2 returns cast-result-2 mul-result-2 add-result-2 cast-result-3 returns-2)

@@ -64,16 +64,4 @@ returns-2 c =
 
 pub words-of-spec : {M : Type 1} → statement M
 words-of-spec =
-    tie.close
-    (tie.spec
-    sub-turned
-    cast-turned
-    sub-signed-word
-    signed-word-requires
-    cast-high
-    sub-high
-    returns
-    cast-n
-    signed-word-requires-2
-    cast-high-2
-    returns-2)
+    tie.close (tie.spec sub-turned cast-turned sub-signed-word signed-word-requires cast-high sub-high returns cast-n signed-word-requires-2 cast-high-2 returns-2)
