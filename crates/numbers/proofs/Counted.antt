@@ -21,10 +21,10 @@ answer-one bytes at h b =
     place : length bytes - length (drop (suc at) bytes) ≡ at + 1
     place = omega (arith, length-drop (suc at) bytes)
 
-module _ (bytes : List ℕ) (at count : ℕ) (c : Counted (drop at bytes) count) where
+module _ (bytes : List ℕ) (at count : ℕ) (c : Counted 5 (drop at bytes) count) where
   pub answer-short : count ≡ 0 → numberAt bytes at ≡ refusal 2
   unfolding numberAt
-  answer-short z = ap (asNumber bytes) (unsigned-short (drop at bytes) count c z)
+  answer-short z = ap (asNumber bytes) (unsigned-short width32 (drop at bytes) count c z)
 
   module _ (some : ¬ (count ≡ 0)) where
     answer : Bool → Number
@@ -32,7 +32,7 @@ module _ (bytes : List ℕ) (at count : ℕ) (c : Counted (drop at bytes) count)
 
     answer-is : numberAt bytes at ≡ answer (wellFormed width32 (take count (drop at bytes)))
     unfolding numberAt answer
-    answer-is = ap (asNumber bytes) (unsigned-counted (drop at bytes) count c some)
+    answer-is = ap (asNumber bytes) (unsigned-counted width32 (drop at bytes) count c some)
 
     pub answer-malformed : wellFormed width32 (take count (drop at bytes)) ≡ false → numberAt bytes at ≡ refusal 3
     unfolding answer

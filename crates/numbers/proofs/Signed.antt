@@ -1,4 +1,4 @@
--- Signed numbers of 32 bits as the code has them: a negative v is −1 − k, and −1 − v is then k. Assumes nothing.
+-- Signed numbers of any width as the code has them: a negative v is −1 − k, and −1 − v is then k. Assumes nothing.
 use mathlib.Core.Path.{_≡_, refl, sym, ap, _∙_}
 use mathlib.Core.Bool.{Bool, true, false, false≢true}
 use Prim.Native.Nat.{ℕ, zero, suc, _<_, _^_, _/_, _%_}
@@ -6,8 +6,8 @@ use native.Mathlib.Omega.{arith}
 use lib.Dec.{eqb}
 use lib.IntN.{ℤ, pos, negsuc, _-ℤ_}
 use lib.Signed.{ltZ}
-use mir.Syntax.{w32}
-use mir.Val.{SFits, toZ, ofZ}
+use mir.Syntax.{Width}
+use mir.Val.{SFits, hbits, toZ, ofZ}
 use mir.Facts.{toZ-ofZ}
 use borrow.Author.Tests.{ltb-true, le-ltb, eq-eqb, ne-eqb}
 use Rattle.guard.specs.Number.{unfoldSigned}
@@ -21,29 +21,30 @@ less-negative k = rw (le-ltb (suc k) 1 (omega arith)) (ap pos (omega arith))
 
 -- ---- the two cases of the fold
 
-pub record Negative (v : ℤ) : Type 0 where
-  pub k : ℕ
-  pub is : v ≡ negsuc k
-  pub small : k < 2 ^ 31
-  pub fits : SFits w32 (negsuc 0 -ℤ toZ w32 (ofZ w32 v))
-  pub less : toZ w32 (ofZ w32 (negsuc 0 -ℤ toZ w32 (ofZ w32 v))) ≡ pos k
+module _ (w : Width) where
+  pub record Negative (v : ℤ) : Type 0 where
+    pub k : ℕ
+    pub is : v ≡ negsuc k
+    pub small : k < 2 ^ hbits w
+    pub fits : SFits w (negsuc 0 -ℤ toZ w (ofZ w v))
+    pub less : toZ w (ofZ w (negsuc 0 -ℤ toZ w (ofZ w v))) ≡ pos k
 
-pub record NotNegative (v : ℤ) : Type 0 where
-  pub k : ℕ
-  pub is : v ≡ pos k
-  pub small : k < 2 ^ 31
-  pub same : toZ w32 (ofZ w32 v) ≡ pos k
+  pub record NotNegative (v : ℤ) : Type 0 where
+    pub k : ℕ
+    pub is : v ≡ pos k
+    pub small : k < 2 ^ hbits w
+    pub same : toZ w (ofZ w v) ≡ pos k
 
-pub negative : (v : ℤ) → SFits w32 v → ltZ (toZ w32 (ofZ w32 v)) (pos 0) ≡ true → Negative v
-negative (pos n) f e = absurd (omega (arith, ltb-true n 0 (rw (toZ-ofZ f) at e)))
-negative (negsuc k) f e =
-    let d : negsuc 0 -ℤ toZ w32 (ofZ w32 (negsuc k)) ≡ pos k = ap (λ (z : ℤ). negsuc 0 -ℤ z) (toZ-ofZ f) ∙ less-negative k in
-    let g : SFits w32 (pos k) = record { sfits = f .sfits } in
-    record { k = k; is = refl; small = f .sfits; fits = rw d g; less = ap (λ (z : ℤ). toZ w32 (ofZ w32 z)) d ∙ toZ-ofZ g }
+  pub negative : (v : ℤ) → SFits w v → ltZ (toZ w (ofZ w v)) (pos 0) ≡ true → Negative v
+  negative (pos n) f e = absurd (omega (arith, ltb-true n 0 (rw (toZ-ofZ f) at e)))
+  negative (negsuc k) f e =
+      let d : negsuc 0 -ℤ toZ w (ofZ w (negsuc k)) ≡ pos k = ap (λ (z : ℤ). negsuc 0 -ℤ z) (toZ-ofZ f) ∙ less-negative k in
+      let g : SFits w (pos k) = record { sfits = f .sfits } in
+      record { k = k; is = refl; small = f .sfits; fits = rw d g; less = ap (λ (z : ℤ). toZ w (ofZ w z)) d ∙ toZ-ofZ g }
 
-pub not-negative : (v : ℤ) → SFits w32 v → ltZ (toZ w32 (ofZ w32 v)) (pos 0) ≡ false → NotNegative v
-not-negative (pos k) f e = record { k = k; is = refl; small = f .sfits; same = toZ-ofZ f }
-not-negative (negsuc k) f e = let z : true ≡ false = rw (toZ-ofZ f) at e in absurd (false≢true (sym z))
+  pub not-negative : (v : ℤ) → SFits w v → ltZ (toZ w (ofZ w v)) (pos 0) ≡ false → NotNegative v
+  not-negative (pos k) f e = record { k = k; is = refl; small = f .sfits; same = toZ-ofZ f }
+  not-negative (negsuc k) f e = let z : true ≡ false = rw (toZ-ofZ f) at e in absurd (false≢true (sym z))
 
 -- ---- the two cases of the unfolding
 

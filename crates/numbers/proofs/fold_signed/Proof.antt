@@ -1,16 +1,17 @@
 -- `numbers::fold_signed` meets its contract, in the two cases of its test. Assumes nothing.
 use mathlib.Core.Path.{ap}
 use native.Mathlib.Omega.{arith}
+use mir.Syntax.{w32}
 use Rattle.guard.specs.Number.{foldSigned}
 use Rattle.numbers.proofs.Signed.{Negative, NotNegative, negative, not-negative}
 use Rattle.numbers.proofs.fold_signed.Statement.{statement}
 use Rattle.numbers.proofs.fold_signed.Tie as tie
 
-below : (c : tie.Then1) → Negative (c .before .args .v)
-below c = negative (c .before .args .v) (c .before .fits .v) (c .if1 .taken)
+below : (c : tie.Then1) → Negative w32 (c .before .args .v)
+below c = negative w32 (c .before .args .v) (c .before .fits .v) (c .if1 .taken)
 
-above : (c : tie.Else1) → NotNegative (c .before .args .v)
-above c = not-negative (c .before .args .v) (c .before .fits .v) (c .if1 .left)
+above : (c : tie.Else1) → NotNegative w32 (c .before .args .v)
+above c = not-negative w32 (c .before .args .v) (c .before .fits .v) (c .if1 .left)
 
 sub-result : tie.Need-sub-result
 sub-result c = below c .fits

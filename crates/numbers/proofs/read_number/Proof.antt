@@ -54,7 +54,7 @@ returns-2 c =
 cast-t12 : tie.Need-cast-t12
 cast-t12 c =
     let w = c .before in
-    record { fits = omega (arith, value w, formed-small (take (count w) (drop (at w) (bytes w))) (verdict w ∙ not-false _ (c .if2 .left))) }
+    record { fits = omega (arith, value w, formed-small width32 (take (count w) (drop (at w) (bytes w))) (verdict w ∙ not-false _ (c .if2 .left))) }
 
 returns-3 : tie.Need-returns-3
 returns-3 c =
