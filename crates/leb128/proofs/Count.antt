@@ -6,7 +6,7 @@ use Prim.Native.Nat.{ℕ, zero, suc, _+_, _-_, _*_, _≤_, _<_, _%_}
 use native.Mathlib.Omega.{arith}
 use native.Mathlib.Numerals.{add-one}
 use lib.Dec.{leb, ltb}
-use lib.ListN.{length, getD, drop, take, drop-of-length-le}
+use lib.ListN.{length, getD, drop, take, drop-of-length-le, length-drop}
 use lib.Seq.{append-snoc, drop-cons, take-suc}
 use borrow.Author.Tests.{le-leb, le-ltb, leb-false, leb-true, lt-ltb, ltb-false, ltb-true}
 use Rattle.laws.proofs.Bools.{and-both, by-test}
@@ -140,6 +140,27 @@ module _ (w : Width) (bs : List ℕ) (count : ℕ) (c : Counted (w .bytes) bs co
 
   pub unsigned-counted : ¬ (count ≡ 0) → unsignedOf w bs ≡ formed w (take count bs) (drop count bs)
   unsigned-counted n = ap (andThen (formed w)) (c .counted n)
+
+  module _ (some : ¬ (count ≡ 0)) where
+    asked : Bool → Parsed ℕ
+    asked t = (ask 3 t >> return (valueOfGroups (take count bs))) (drop count bs)
+
+    pub unsigned-malformed : wellFormed w (take count bs) ≡ false → unsignedOf w bs ≡ refused 3
+    unfolding asked
+    unsigned-malformed e = unsigned-counted some ∙ ap asked e
+
+    pub unsigned-formed : wellFormed w (take count bs) ≡ true → unsignedOf w bs ≡ accepted (valueOfGroups (take count bs)) (drop count bs)
+    unfolding asked
+    unsigned-formed e = unsigned-counted some ∙ ap asked e
+
+-- the bytes counted, as a part of the slice
+pub part-counted : (bytes : List ℕ) (at count : ℕ) → take (at + count - at) (drop at bytes) ≡ take count (drop at bytes)
+part-counted bytes at count = let n : at + count - at ≡ count = omega arith in ap (λ (k : ℕ). take k (drop at bytes)) n
+
+-- the cursor after a number at `at`, from the bytes that it leaves
+pub cursor-after : (most : ℕ) (bytes : List ℕ) (at count : ℕ) → Counted most (drop at bytes) count → ¬ (count ≡ 0)
+    → length bytes - length (drop count (drop at bytes)) ≡ at + count
+cursor-after most bytes at count c some = omega (arith, length-drop count (drop at bytes), length-drop at bytes, c .within, some)
 
 -- a number of one byte is that byte
 pub unsigned-one : (b : ℕ) (bs : List ℕ) → b < 128 → unsigned (b ∷ bs) ≡ accepted b bs

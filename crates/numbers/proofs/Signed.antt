@@ -1,18 +1,19 @@
 -- Signed numbers of any width as the code has them: a negative v is −1 − k, and −1 − v is then k. Assumes nothing.
-use mathlib.Core.Path.{_≡_, refl, sym, ap, _∙_}
+use mathlib.Core.Path.{_≡_, refl, sym, ap, subst, _∙_}
 use mathlib.Core.Bool.{Bool, true, false, false≢true}
-use Prim.Native.Nat.{ℕ, zero, suc, _<_, _^_, _/_, _%_}
+use Prim.Native.Nat.{ℕ, zero, suc, _+_, _*_, _<_, _^_, _/_, _%_}
 use native.Mathlib.Omega.{arith}
-use lib.Dec.{eqb}
-use lib.IntN.{ℤ, pos, negsuc, _-ℤ_}
-use lib.Signed.{ltZ}
+use lib.Dec.{T}
+use lib.IntN.{ℤ, pos, negsuc, natAbs, _-ℤ_}
+use lib.Signed.{ltZ, nonNeg}
 use mir.Syntax.{Width}
-use mir.Val.{SFits, hbits, toZ, ofZ}
-use mir.Facts.{toZ-ofZ}
+use mir.Val.{Fits, SFits, hbits, toZ, ofZ}
+use mir.ValLaws.{pow-bits}
+use mir.Facts.{toZ-ofZ, toZ-pos}
 use borrow.Author.Tests.{ltb-true, le-ltb, eq-eqb, ne-eqb}
-use Rattle.guard.specs.Number.{unfoldSigned}
+use Rattle.guard.specs.Number.{foldSigned, unfoldSigned}
 
-pub less-not-negative : (k : ℕ) → negsuc 0 -ℤ pos k ≡ negsuc k
+less-not-negative : (k : ℕ) → negsuc 0 -ℤ pos k ≡ negsuc k
 less-not-negative zero = refl
 less-not-negative (suc k) = ap negsuc (omega arith)
 
@@ -22,42 +23,77 @@ less-negative k = rw (le-ltb (suc k) 1 (omega arith)) (ap pos (omega arith))
 -- ---- the two cases of the fold
 
 module _ (w : Width) where
-  pub record Negative (v : ℤ) : Type 0 where
-    pub k : ℕ
-    pub is : v ≡ negsuc k
-    pub small : k < 2 ^ hbits w
-    pub fits : SFits w (negsuc 0 -ℤ toZ w (ofZ w v))
-    pub less : toZ w (ofZ w (negsuc 0 -ℤ toZ w (ofZ w v))) ≡ pos k
+  -- a number of the code that is no negative one, and its double
+  pub record Doubled (z : ℤ) : Type 0 where
+    pub cast : T (nonNeg z) × Fits w (natAbs z)
+    pub double : Fits w (natAbs z * 2)
+    pub odd : Fits w (natAbs z * 2 + 1)
 
-  pub record NotNegative (v : ℤ) : Type 0 where
-    pub k : ℕ
-    pub is : v ≡ pos k
-    pub small : k < 2 ^ hbits w
-    pub same : toZ w (ofZ w v) ≡ pos k
+  doubled : (k : ℕ) → k < 2 ^ hbits w → Doubled (pos k)
+  doubled k h =
+      record {
+        cast = (tt, record { fits = omega (arith, pow-bits w) });
+        double = record { fits = omega (arith, pow-bits w) };
+        odd = record { fits = omega (arith, pow-bits w) };
+      }
+
+  module _ (v : ℤ) where
+    -- −1 − v, and v, as the code has them
+    abbrev turned : ℤ
+    turned = toZ w (ofZ w (negsuc 0 -ℤ toZ w (ofZ w v)))
+
+    abbrev same : ℤ
+    same = toZ w (ofZ w v)
+
+    pub record Negative : Type 0 where
+      pub fits : SFits w (negsuc 0 -ℤ same)
+      pub doubles : Doubled turned
+      pub folded : natAbs turned * 2 + 1 ≡ foldSigned v
+
+    pub record NotNegative : Type 0 where
+      pub doubles : Doubled same
+      pub folded : natAbs same * 2 ≡ foldSigned v
 
   pub negative : (v : ℤ) → SFits w v → ltZ (toZ w (ofZ w v)) (pos 0) ≡ true → Negative v
   negative (pos n) f e = absurd (omega (arith, ltb-true n 0 (rw (toZ-ofZ f) at e)))
   negative (negsuc k) f e =
       let d : negsuc 0 -ℤ toZ w (ofZ w (negsuc k)) ≡ pos k = ap (λ (z : ℤ). negsuc 0 -ℤ z) (toZ-ofZ f) ∙ less-negative k in
       let g : SFits w (pos k) = record { sfits = f .sfits } in
-      record { k = k; is = refl; small = f .sfits; fits = rw d g; less = ap (λ (z : ℤ). toZ w (ofZ w z)) d ∙ toZ-ofZ g }
+      let is : turned (negsuc k) ≡ pos k = ap (λ (z : ℤ). toZ w (ofZ w z)) d ∙ toZ-ofZ g in
+      record {
+        fits = rw d g;
+        doubles = subst Doubled (sym is) (doubled k (f .sfits));
+        folded = ap (λ (z : ℤ). natAbs z * 2 + 1) is ∙ omega arith;
+      }
 
   pub not-negative : (v : ℤ) → SFits w v → ltZ (toZ w (ofZ w v)) (pos 0) ≡ false → NotNegative v
-  not-negative (pos k) f e = record { k = k; is = refl; small = f .sfits; same = toZ-ofZ f }
+  not-negative (pos k) f e =
+      record {
+        doubles = subst Doubled (sym (toZ-ofZ f)) (doubled k (f .sfits));
+        folded = ap (λ (z : ℤ). natAbs z * 2) (toZ-ofZ f) ∙ omega arith;
+      }
   not-negative (negsuc k) f e = let z : true ≡ false = rw (toZ-ofZ f) at e in absurd (false≢true (sym z))
 
 -- ---- the two cases of the unfolding
 
-pub unfold-even : (n : ℕ) → n % 2 ≡ 0 → pos (n / 2) ≡ unfoldSigned n
-unfold-even n h = go (eqb (n % 2) 0) (eq-eqb _ _ h)
-  where
-    go : (b : Bool) → b ≡ true → pos (n / 2) ≡ elim b [ true ↦ pos (n / 2) | false ↦ negsuc (n / 2) ]
-    go true e = refl
-    go false e = absurd (false≢true e)
+module _ (w : Width) (n : ℕ) (h : n / 2 < 2 ^ hbits w) where
+  -- −1 − half
+  less : negsuc 0 -ℤ toZ w (n / 2) ≡ negsuc (n / 2)
+  less = ap (λ (z : ℤ). negsuc 0 -ℤ z) (toZ-pos w h) ∙ less-not-negative (n / 2)
 
-pub unfold-odd : (n : ℕ) → ¬ (n % 2 ≡ 0) → negsuc (n / 2) ≡ unfoldSigned n
-unfold-odd n h = go (eqb (n % 2) 0) (ne-eqb _ _ h)
-  where
-    go : (b : Bool) → b ≡ false → negsuc (n / 2) ≡ elim b [ true ↦ pos (n / 2) | false ↦ negsuc (n / 2) ]
-    go true e = absurd (false≢true (sym e))
-    go false e = refl
+  odd-fits : SFits w (negsuc (n / 2))
+  odd-fits = record { sfits = h }
+
+  pub less-fits : SFits w (negsuc 0 -ℤ toZ w (n / 2))
+  less-fits = subst (SFits w) (sym less) odd-fits
+
+  case : Bool → ℤ
+  case b = elim b [ true ↦ pos (n / 2) | false ↦ negsuc (n / 2) ]
+
+  pub unfold-even : n % 2 ≡ 0 → toZ w (n / 2) ≡ unfoldSigned n
+  unfolding case
+  unfold-even e = toZ-pos w h ∙ sym (ap case (eq-eqb _ _ e))
+
+  pub unfold-odd : ¬ (n % 2 ≡ 0) → toZ w (ofZ w (negsuc 0 -ℤ toZ w (n / 2))) ≡ unfoldSigned n
+  unfolding case
+  unfold-odd e = ap (λ (z : ℤ). toZ w (ofZ w z)) less ∙ toZ-ofZ odd-fits ∙ sym (ap case (ne-eqb _ _ e))
