@@ -6,11 +6,11 @@ use Prim.Native.Nat.{ℕ, zero, suc, _+_, _-_, _*_, _≤_, _<_, _%_}
 use native.Mathlib.Omega.{arith}
 use native.Mathlib.Numerals.{add-one}
 use lib.Dec.{leb, ltb}
-use lib.ListN.{length, getD, drop, take, drop-of-length-le}
+use lib.ListN.{length, getD, drop, take, drop-of-length-le, length-drop}
 use lib.Seq.{append-snoc, drop-cons, take-suc}
 use borrow.Author.Tests.{le-leb, le-ltb, leb-false, leb-true, lt-ltb, ltb-false, ltb-true}
 use Rattle.laws.proofs.Bools.{and-both, by-test}
-use Rattle.guard.specs.Number.{Parsed, Parsed.accepted, Parsed.refused, Parser, _>>=_, _>>_, andThen, ask, groups, return, unsigned, valueOfGroups, wellFormed, width32}
+use Rattle.guard.specs.Number.{Parsed, Parsed.accepted, Parsed.refused, Parser, Width, _>>=_, _>>_, andThen, ask, groups, return, unsigned, unsignedOf, valueOfGroups, wellFormed, width32}
 use Rattle.leb128.specs.Count.{Counted}
 
 -- ---- groups that follow others
@@ -37,113 +37,135 @@ module _ (k b : ℕ) (front bs : List ℕ) where
 -- ---- the count
 
 -- the first `count` bytes have bit 80: the groups from there on, behind these, are the definition's
-pub record Counting (bs : List ℕ) (count : ℕ) : Type 0 where
-  pub most : count ≤ 5
+pub record Counting (most : ℕ) (bs : List ℕ) (count : ℕ) : Type 0 where
+  pub few : count ≤ most
   pub within : count ≤ length bs
-  pub so-far : groups 5 bs ≡ behind (take count bs) (groups (5 - count) (drop count bs))
+  pub so-far : groups most bs ≡ behind (take count bs) (groups (most - count) (drop count bs))
 
-pub counting-none : (bs : List ℕ) → Counting bs 0
-counting-none bs = record { most = omega arith; within = omega arith; so-far = whole (groups 5 bs) }
-  where
-    whole : (r : Parsed (List ℕ)) → r ≡ behind [] r
-    whole (refused q) = refl
-    whole (accepted gs rest) = refl
+module _ (most : ℕ) (bs : List ℕ) where
+  pub counting-none : Counting most bs 0
+  counting-none = record { few = omega arith; within = omega arith; so-far = whole (groups most bs) ∙ ap (λ (k : ℕ). behind [] (groups k bs)) all }
+    where
+      all : most ≡ most - 0
+      all = omega arith
 
--- five bytes that all have bit 80 count too: the fifth is the end
-pub counted-most : (bs : List ℕ) (count : ℕ) → Counting bs count → 5 ≤ count → Counted bs count
-counted-most bs count c h =
-    record {
-      most = c .most;
-      within = c .within;
-      ends = λ z. absurd (omega arith);
-      counted =
-          λ n. c .so-far ∙ ap (λ (k : ℕ). behind (take count bs) (groups k (drop count bs))) none
-          ∙ ap (λ (l : List ℕ). accepted l (drop count bs)) (append-nil (take count bs));
-    }
-  where
-    none : 5 - count ≡ 0
-    none = omega arith
+      whole : (r : Parsed (List ℕ)) → r ≡ behind [] r
+      whole (refused q) = refl
+      whole (accepted gs rest) = refl
 
--- one byte more, if it is there
-module _ (bs : List ℕ) (count : ℕ) (c : Counting bs count) (some : count < 5) where
-  left : 5 - count ≡ suc (4 - count)
-  left = omega arith
-
-  pub counted-end : length bs ≤ count → Counted bs 0
-  counted-end h =
-      record {
-        most = omega arith;
-        within = omega arith;
-        ends =
-            λ z. c .so-far ∙ ap (λ (k : ℕ). behind (take count bs) (groups k (drop count bs))) left
-            ∙ ap (λ (l : List ℕ). behind (take count bs) (groups (suc (4 - count)) l)) (drop-of-length-le bs h);
-        counted = λ n. absurd (n refl);
-      }
-
-  module _ (there : count < length bs) where
-    next : groups 5 bs ≡ behind (take count bs) (groups (suc (4 - count)) (getD bs count 0 ∷ drop (suc count) bs))
-    next =
-        c .so-far ∙ ap (λ (k : ℕ). behind (take count bs) (groups k (drop count bs))) left
-        ∙ ap (λ (l : List ℕ). behind (take count bs) (groups (suc (4 - count)) l)) (drop-cons bs count 0 there)
-
-    pub counted-last : getD bs count 0 < 128 → Counted bs (count + 1)
-    counted-last h =
+  module _ (count : ℕ) (c : Counting most bs count) where
+    -- as many bytes as there may be, all with bit 80, count too: the last of them is the end
+    pub counted-most : 0 < most → most ≤ count → Counted most bs count
+    counted-most some h =
         record {
-          most = omega arith;
-          within = omega arith;
+          few = c .few;
+          within = c .within;
           ends = λ z. absurd (omega arith);
           counted =
-              λ n. next ∙ one-last (4 - count) (getD bs count 0) (take count bs) (drop (suc count) bs) h
-              ∙ ap (λ (l : List ℕ). accepted l (drop (suc count) bs)) (sym (take-suc bs count 0 there))
-              ∙ ap (λ (k : ℕ). accepted (take k bs) (drop k bs)) (sym (add-one count));
-        }
-
-    pub counting-more : 128 ≤ getD bs count 0 → Counting bs (count + 1)
-    counting-more h =
-        record {
-          most = omega arith;
-          within = omega arith;
-          so-far =
-              next ∙ one-more (4 - count) (getD bs count 0) (take count bs) (drop (suc count) bs) h
-              ∙ ap (λ (l : List ℕ). behind l (groups (4 - count) (drop (suc count) bs))) (sym (take-suc bs count 0 there))
-              ∙ ap (λ (k : ℕ). behind (take k bs) (groups (4 - count) (drop k bs))) (sym (add-one count))
-              ∙ ap (λ (k : ℕ). behind (take (count + 1) bs) (groups k (drop (count + 1) bs))) fewer;
+              λ n. c .so-far ∙ ap (λ (k : ℕ). behind (take count bs) (groups k (drop count bs))) none
+              ∙ ap (λ (l : List ℕ). accepted l (drop count bs)) (append-nil (take count bs));
         }
       where
-        fewer : 4 - count ≡ 5 - (count + 1)
-        fewer = omega arith
+        none : most - count ≡ 0
+        none = omega arith
+
+    -- one byte more, if it is there
+    module _ (some : count < most) where
+      left : most - count ≡ suc (most - suc count)
+      left = omega arith
+
+      pub counted-end : length bs ≤ count → Counted most bs 0
+      counted-end h =
+          record {
+            few = omega arith;
+            within = omega arith;
+            ends =
+                λ z. c .so-far ∙ ap (λ (k : ℕ). behind (take count bs) (groups k (drop count bs))) left
+                ∙ ap (λ (l : List ℕ). behind (take count bs) (groups (suc (most - suc count)) l)) (drop-of-length-le bs h);
+            counted = λ n. absurd (n refl);
+          }
+
+      module _ (there : count < length bs) where
+        next : groups most bs ≡ behind (take count bs) (groups (suc (most - suc count)) (getD bs count 0 ∷ drop (suc count) bs))
+        next =
+            c .so-far ∙ ap (λ (k : ℕ). behind (take count bs) (groups k (drop count bs))) left
+            ∙ ap (λ (l : List ℕ). behind (take count bs) (groups (suc (most - suc count)) l)) (drop-cons bs count 0 there)
+
+        pub counted-last : getD bs count 0 < 128 → Counted most bs (count + 1)
+        counted-last h =
+            record {
+              few = omega arith;
+              within = omega arith;
+              ends = λ z. absurd (omega arith);
+              counted =
+                  λ n. next ∙ one-last (most - suc count) (getD bs count 0) (take count bs) (drop (suc count) bs) h
+                  ∙ ap (λ (l : List ℕ). accepted l (drop (suc count) bs)) (sym (take-suc bs count 0 there))
+                  ∙ ap (λ (k : ℕ). accepted (take k bs) (drop k bs)) (sym (add-one count));
+            }
+
+        pub counting-more : 128 ≤ getD bs count 0 → Counting most bs (count + 1)
+        counting-more h =
+            record {
+              few = omega arith;
+              within = omega arith;
+              so-far =
+                  next ∙ one-more (most - suc count) (getD bs count 0) (take count bs) (drop (suc count) bs) h
+                  ∙ ap (λ (l : List ℕ). behind l (groups (most - suc count) (drop (suc count) bs))) (sym (take-suc bs count 0 there))
+                  ∙ ap (λ (k : ℕ). behind (take k bs) (groups (most - k) (drop k bs))) (sym (add-one count));
+            }
 
 -- there is always a count
-pub counts : (bs : List ℕ) → (n : ℕ) × Counted bs n
-counts bs = go 5 0 (omega arith) (counting-none bs)
+pub counts : (most : ℕ) (bs : List ℕ) → 0 < most → (n : ℕ) × Counted most bs n
+counts most bs some = go most 0 (omega arith) (counting-none most bs)
   where
-    go : (k count : ℕ) → count + k ≡ 5 → Counting bs count → (n : ℕ) × Counted bs n
-    go zero count e c = (count, counted-most bs count c (omega arith))
+    go : (k count : ℕ) → count + k ≡ most → Counting most bs count → (n : ℕ) × Counted most bs n
+    go zero count e c = (count, counted-most most bs count c some (omega arith))
     go (suc k) count e c =
         by-test (leb (length bs) count)
-        (λ t. (0, counted-end bs count c (omega arith) (leb-true _ _ t)))
+        (λ t. (0, counted-end most bs count c (omega arith) (leb-true _ _ t)))
         (λ t. let there : count < length bs = leb-false (length bs) count t in
         by-test (ltb (getD bs count 0) 128)
-        (λ u. (count + 1, counted-last bs count c (omega arith) there (ltb-true _ _ u)))
-        (λ u. go k (count + 1) (omega arith) (counting-more bs count c (omega arith) there (ltb-false _ _ u))))
+        (λ u. (count + 1, counted-last most bs count c (omega arith) there (ltb-true _ _ u)))
+        (λ u. go k (count + 1) (omega arith) (counting-more most bs count c (omega arith) there (ltb-false _ _ u))))
 
 -- ---- the number, from the count
 
 -- the question at groups that are read
-abbrev pub formed : List ℕ → Parser ℕ
-formed gs = ask 3 (wellFormed width32 gs) >> return (valueOfGroups gs)
+abbrev pub formed : Width → List ℕ → Parser ℕ
+formed w gs = ask 3 (wellFormed w gs) >> return (valueOfGroups gs)
 
-module _ (bs : List ℕ) (count : ℕ) (c : Counted bs count) where
-  pub unsigned-short : count ≡ 0 → unsigned bs ≡ refused 2
-  unsigned-short z = ap (andThen formed) (c .ends z)
+module _ (w : Width) (bs : List ℕ) (count : ℕ) (c : Counted (w .bytes) bs count) where
+  pub unsigned-short : count ≡ 0 → unsignedOf w bs ≡ refused 2
+  unsigned-short z = ap (andThen (formed w)) (c .ends z)
 
-  pub unsigned-counted : ¬ (count ≡ 0) → unsigned bs ≡ formed (take count bs) (drop count bs)
-  unsigned-counted n = ap (andThen formed) (c .counted n)
+  pub unsigned-counted : ¬ (count ≡ 0) → unsignedOf w bs ≡ formed w (take count bs) (drop count bs)
+  unsigned-counted n = ap (andThen (formed w)) (c .counted n)
+
+  module _ (some : ¬ (count ≡ 0)) where
+    asked : Bool → Parsed ℕ
+    asked t = (ask 3 t >> return (valueOfGroups (take count bs))) (drop count bs)
+
+    pub unsigned-malformed : wellFormed w (take count bs) ≡ false → unsignedOf w bs ≡ refused 3
+    unfolding asked
+    unsigned-malformed e = unsigned-counted some ∙ ap asked e
+
+    pub unsigned-formed : wellFormed w (take count bs) ≡ true → unsignedOf w bs ≡ accepted (valueOfGroups (take count bs)) (drop count bs)
+    unfolding asked
+    unsigned-formed e = unsigned-counted some ∙ ap asked e
+
+-- the bytes counted, as a part of the slice
+pub part-counted : (bytes : List ℕ) (at count : ℕ) → take (at + count - at) (drop at bytes) ≡ take count (drop at bytes)
+part-counted bytes at count = let n : at + count - at ≡ count = omega arith in ap (λ (k : ℕ). take k (drop at bytes)) n
+
+-- the cursor after a number at `at`, from the bytes that it leaves
+pub cursor-after : (most : ℕ) (bytes : List ℕ) (at count : ℕ) → Counted most (drop at bytes) count → ¬ (count ≡ 0)
+    → length bytes - length (drop count (drop at bytes)) ≡ at + count
+cursor-after most bytes at count c some = omega (arith, length-drop count (drop at bytes), length-drop at bytes, c .within, some)
 
 -- a number of one byte is that byte
 pub unsigned-one : (b : ℕ) (bs : List ℕ) → b < 128 → unsigned (b ∷ bs) ≡ accepted b bs
 unsigned-one b bs h =
-    ap (λ (t : Bool). andThen formed (elim t [ true ↦ accepted (b ∷ []) bs | false ↦ (groups 4 >>= λ gs. return (b ∷ gs)) bs ])) (lt-ltb b 128 h)
+    ap (λ (t : Bool). andThen (formed width32) (elim t [ true ↦ accepted (b ∷ []) bs | false ↦ (groups 4 >>= λ gs. return (b ∷ gs)) bs ])) (lt-ltb b 128 h)
     ∙ ap (λ (v : ℕ). (ask 3 (ltb b 128 && (leb v 4294967295 && true)) >> return v) bs) value
     ∙ ap (λ (t : Bool). (ask 3 t >> return b) bs) (and-both _ _ (lt-ltb b 128 h) (and-both _ _ (le-leb b 4294967295 (omega arith)) refl))
   where

@@ -5,9 +5,10 @@ use Prim.Native.Nat.{ℕ, _≤_}
 use lib.ListN.{length, drop, take}
 use Rattle.guard.specs.Number.{Parsed.accepted, Parsed.refused, groups}
 
--- What a byte count says of the definition's groups: 0, that the bytes end before the number does; else that so many bytes are read.
-pub record Counted (bs : List ℕ) (count : ℕ) : Type 0 where
-  pub most : count ≤ 5
+-- What a byte count of at most `most` says of the definition's groups: 0, that the bytes end before the number does; else that so
+-- many bytes are read.
+pub record Counted (most : ℕ) (bs : List ℕ) (count : ℕ) : Type 0 where
+  pub few : count ≤ most
   pub within : count ≤ length bs
-  pub ends : count ≡ 0 → groups 5 bs ≡ refused 2
-  pub counted : ¬ (count ≡ 0) → groups 5 bs ≡ accepted (take count bs) (drop count bs)
+  pub ends : count ≡ 0 → groups most bs ≡ refused 2
+  pub counted : ¬ (count ≡ 0) → groups most bs ≡ accepted (take count bs) (drop count bs)

@@ -1,18 +1,19 @@
 // The bytes of a number of the guard file, which are those of an unsigned LEB128 of the DWARF standard: groups of seven bits, the
 // low group first, with bit 80 in all bytes but the last. Here a number has at most five bytes, has the fewest, and is at most
-// 4,294,967,295.
+// 4,294,967,295. Only the byte count knows of longer ones, for request #104.
 ghost use mathlib.Core.Path.{_≡_};
 ghost use Prim.Native.Nat.{_<_, _≤_, _%_};
 ghost use lib.ListN.{drop, getD, length};
 ghost use Rattle.guard.specs.Number.{valueOfGroups, wellFormed, width32};
 ghost use Rattle.leb128.specs.Count.{Counted};
 
-// How many bytes the number at `at` has: up to and with the first without bit 80, and at most five. 0 if the bytes end before.
-pub fn byte_count(bytes: &[u8], at: usize) -> usize
-    ensures { λ r. ⌜ Counted (drop at (now (bytes .entry))) r ⌝ }
+// How many bytes the number at `at` has: up to and with the first without bit 80, and at most `most`. 0 if the bytes end before.
+pub fn byte_count(bytes: &[u8], at: usize, most: usize) -> usize
+    requires { ⌜ (0 < most) × (most ≤ 10) ⌝ }
+    ensures { λ r. ⌜ Counted most (drop at (now (bytes .entry))) r ⌝ }
 {
     let mut count: usize = 0;
-    while count < 5 {
+    while count < most {
         let next = at + count;
         if bytes.len() <= next {
             return 0;
@@ -22,7 +23,7 @@ pub fn byte_count(bytes: &[u8], at: usize) -> usize
             return count;
         }
     }
-    // The fifth byte is the last, and has bit 80.
+    // A byte with bit 80 in the last place is the end too.
     count
 }
 

@@ -1,15 +1,14 @@
 -- The answer of `read_number`, from the byte count, and of `read_short` where the first byte is the last. Assumes nothing.
 use mathlib.Core.Path.{_≡_, ap, _∙_}
-use mathlib.Core.Bool.{Bool, true, false}
+use mathlib.Core.Bool.{true, false}
 use mathlib.Core.List.{List}
 use Prim.Native.Nat.{ℕ, suc, _+_, _-_, _<_}
 use native.Mathlib.Omega.{arith}
 use lib.ListN.{length, getD, drop, take, length-drop}
 use lib.Seq.{drop-cons}
-use Rattle.guard.specs.Number.{_>>_, ask, return, unsigned, valueOfGroups, wellFormed, width32}
+use Rattle.guard.specs.Number.{unsigned, valueOfGroups, wellFormed, width32}
 use Rattle.leb128.specs.Count.{Counted}
-use Rattle.leb128.proofs.Count.{unsigned-counted, unsigned-one, unsigned-short}
-use Rattle.numbers.specs.declared.Number.{Number}
+use Rattle.leb128.proofs.Count.{cursor-after, unsigned-formed, unsigned-malformed, unsigned-one, unsigned-short}
 use Rattle.numbers.specs.Reader.{asNumber, found, numberAt, refusal}
 
 -- the quick look
@@ -21,26 +20,18 @@ answer-one bytes at h b =
     place : length bytes - length (drop (suc at) bytes) ≡ at + 1
     place = omega (arith, length-drop (suc at) bytes)
 
-module _ (bytes : List ℕ) (at count : ℕ) (c : Counted (drop at bytes) count) where
+module _ (bytes : List ℕ) (at count : ℕ) (c : Counted 5 (drop at bytes) count) where
   pub answer-short : count ≡ 0 → numberAt bytes at ≡ refusal 2
   unfolding numberAt
-  answer-short z = ap (asNumber bytes) (unsigned-short (drop at bytes) count c z)
+  answer-short z = ap (asNumber bytes) (unsigned-short width32 (drop at bytes) count c z)
 
   module _ (some : ¬ (count ≡ 0)) where
-    answer : Bool → Number
-    answer t = asNumber bytes ((ask 3 t >> return (valueOfGroups (take count (drop at bytes)))) (drop count (drop at bytes)))
-
-    answer-is : numberAt bytes at ≡ answer (wellFormed width32 (take count (drop at bytes)))
-    unfolding numberAt answer
-    answer-is = ap (asNumber bytes) (unsigned-counted (drop at bytes) count c some)
-
     pub answer-malformed : wellFormed width32 (take count (drop at bytes)) ≡ false → numberAt bytes at ≡ refusal 3
-    unfolding answer
-    answer-malformed e = answer-is ∙ ap answer e
+    unfolding numberAt
+    answer-malformed e = ap (asNumber bytes) (unsigned-malformed width32 (drop at bytes) count c some e)
 
     pub answer-formed : wellFormed width32 (take count (drop at bytes)) ≡ true → numberAt bytes at ≡ found (valueOfGroups (take count (drop at bytes))) (at + count)
-    unfolding answer
-    answer-formed e = answer-is ∙ ap answer e ∙ ap (found (valueOfGroups (take count (drop at bytes)))) place
-      where
-        place : length bytes - length (drop count (drop at bytes)) ≡ at + count
-        place = omega (arith, length-drop count (drop at bytes), length-drop at bytes, c .within)
+    unfolding numberAt
+    answer-formed e =
+        ap (asNumber bytes) (unsigned-formed width32 (drop at bytes) count c some e)
+        ∙ ap (found (valueOfGroups (take count (drop at bytes)))) (cursor-after 5 bytes at count c some)

@@ -33,37 +33,37 @@ record Suffix (bs rest : List ℕ) : Type 0 where
   is : rest ≡ drop used bs
 
 suffix : (bs : List ℕ) (v : ℕ) (rest : List ℕ) → unsigned bs ≡ accepted v rest → Suffix bs rest
-suffix bs v rest e = let (n, c) = counts bs in by-test (eqb n 0) (λ z. none n c (eqb-true n 0 z)) (λ z. some n c (eqb-false n 0 z))
+suffix bs v rest e = let (n, c) = counts 5 bs (omega arith) in by-test (eqb n 0) (λ z. none n c (eqb-true n 0 z)) (λ z. some n c (eqb-false n 0 z))
   where
-    none : (n : ℕ) → Counted bs n → n ≡ 0 → Suffix bs rest
-    none n c z = other (sym (unsigned-short bs n c z) ∙ e)
+    none : (n : ℕ) → Counted 5 bs n → n ≡ 0 → Suffix bs rest
+    none n c z = other (sym (unsigned-short width32 bs n c z) ∙ e)
 
     left : (gs mid : List ℕ) (t : Bool) → (ask 3 t >> return (valueOfGroups gs)) mid ≡ accepted v rest → rest ≡ mid
     left gs mid true h = cc
     left gs mid false h = other h
 
-    some : (n : ℕ) → Counted bs n → ¬ (n ≡ 0) → Suffix bs rest
+    some : (n : ℕ) → Counted 5 bs n → ¬ (n ≡ 0) → Suffix bs rest
     some n c z =
         record {
           used = n;
           some = omega (arith, z);
           there = c .within;
-          is = left (take n bs) (drop n bs) (wellFormed width32 (take n bs)) (sym (unsigned-counted bs n c z) ∙ e);
+          is = left (take n bs) (drop n bs) (wellFormed width32 (take n bs)) (sym (unsigned-counted width32 bs n c z) ∙ e);
         }
 
 -- a number is refused by a question, never by 0
 pub unsigned-question : (bs : List ℕ) (q : ℕ) → unsigned bs ≡ refused q → 0 < q
-unsigned-question bs q e = let (n, c) = counts bs in by-test (eqb n 0) (λ z. none n c (eqb-true n 0 z)) (λ z. some n c (eqb-false n 0 z))
+unsigned-question bs q e = let (n, c) = counts 5 bs (omega arith) in by-test (eqb n 0) (λ z. none n c (eqb-true n 0 z)) (λ z. some n c (eqb-false n 0 z))
   where
-    none : (n : ℕ) → Counted bs n → n ≡ 0 → 0 < q
-    none n c z = let two : _≡_ {A = Parsed ℕ} (refused 2) (refused q) = sym (unsigned-short bs n c z) ∙ e in let is : 2 ≡ q = cc in omega arith
+    none : (n : ℕ) → Counted 5 bs n → n ≡ 0 → 0 < q
+    none n c z = let two : _≡_ {A = Parsed ℕ} (refused 2) (refused q) = sym (unsigned-short width32 bs n c z) ∙ e in let is : 2 ≡ q = cc in omega arith
 
     asked : (gs mid : List ℕ) (t : Bool) → (ask 3 t >> return (valueOfGroups gs)) mid ≡ refused q → 0 < q
     asked gs mid true h = other (sym h)
     asked gs mid false h = let is : 3 ≡ q = cc in omega arith
 
-    some : (n : ℕ) → Counted bs n → ¬ (n ≡ 0) → 0 < q
-    some n c z = asked (take n bs) (drop n bs) (wellFormed width32 (take n bs)) (sym (unsigned-counted bs n c z) ∙ e)
+    some : (n : ℕ) → Counted 5 bs n → ¬ (n ≡ 0) → 0 < q
+    some n c z = asked (take n bs) (drop n bs) (wellFormed width32 (take n bs)) (sym (unsigned-counted width32 bs n c z) ∙ e)
 
 -- *Cursor law.* A number at `at` leaves the bytes from the next cursor on, past `at` and in the bytes.
 pub record Passed (bytes : List ℕ) (at next value : ℕ) (rest : List ℕ) : Type 0 where

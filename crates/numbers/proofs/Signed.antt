@@ -1,16 +1,17 @@
 -- Signed numbers of any width as the code has them: a negative v is −1 − k, and −1 − v is then k. Assumes nothing.
-use mathlib.Core.Path.{_≡_, refl, sym, ap, _∙_}
+use mathlib.Core.Path.{_≡_, refl, sym, ap, subst, _∙_}
 use mathlib.Core.Bool.{Bool, true, false, false≢true}
-use Prim.Native.Nat.{ℕ, zero, suc, _<_, _^_, _/_, _%_}
+use Prim.Native.Nat.{ℕ, zero, suc, _+_, _*_, _<_, _^_, _/_, _%_}
 use native.Mathlib.Omega.{arith}
-use lib.Dec.{eqb}
-use lib.IntN.{ℤ, pos, negsuc, _-ℤ_}
-use lib.Signed.{ltZ}
+use lib.Dec.{T}
+use lib.IntN.{ℤ, pos, negsuc, natAbs, _-ℤ_}
+use lib.Signed.{ltZ, nonNeg}
 use mir.Syntax.{Width}
-use mir.Val.{SFits, hbits, toZ, ofZ}
+use mir.Val.{Fits, SFits, hbits, toZ, ofZ}
+use mir.ValLaws.{pow-bits}
 use mir.Facts.{toZ-ofZ, toZ-pos}
 use borrow.Author.Tests.{ltb-true, le-ltb, eq-eqb, ne-eqb}
-use Rattle.guard.specs.Number.{unfoldSigned}
+use Rattle.guard.specs.Number.{foldSigned, unfoldSigned}
 
 less-not-negative : (k : ℕ) → negsuc 0 -ℤ pos k ≡ negsuc k
 less-not-negative zero = refl
@@ -58,18 +59,70 @@ turned w k h =
     let g : SFits w (negsuc k) = record { sfits = h } in
     record { fits = rw d g; is = ap (λ (z : ℤ). toZ w (ofZ w z)) d ∙ toZ-ofZ g }
 
+-- ---- the two cases of the fold
+
+module _ (w : Width) where
+  -- a number of the code that is no negative one, and its double
+  pub record Doubled (z : ℤ) : Type 0 where
+    pub cast : T (nonNeg z) × Fits w (natAbs z)
+    pub double : Fits w (natAbs z * 2)
+    pub odd : Fits w (natAbs z * 2 + 1)
+
+  doubled : (k : ℕ) → k < 2 ^ hbits w → Doubled (pos k)
+  doubled k h =
+      record {
+        cast = (tt, record { fits = omega (arith, pow-bits w) });
+        double = record { fits = omega (arith, pow-bits w) };
+        odd = record { fits = omega (arith, pow-bits w) };
+      }
+
+  module _ (v : ℤ) where
+    -- −1 − v, and v, as the code has them
+    abbrev less-one : ℤ
+    less-one = toZ w (ofZ w (negsuc 0 -ℤ toZ w (ofZ w v)))
+
+    abbrev same : ℤ
+    same = toZ w (ofZ w v)
+
+    pub record FoldsNegative : Type 0 where
+      pub fits : SFits w (negsuc 0 -ℤ same)
+      pub doubles : Doubled less-one
+      pub folded : natAbs less-one * 2 + 1 ≡ foldSigned v
+
+    pub record FoldsOther : Type 0 where
+      pub doubles : Doubled same
+      pub folded : natAbs same * 2 ≡ foldSigned v
+
+    pub folds-negative : SFits w v → ltZ same (pos 0) ≡ true → FoldsNegative
+    folds-negative f e =
+        let n = negative v f e in
+        record {
+          fits = n .fits;
+          doubles = subst Doubled (sym (n .less)) (doubled (n .k) (n .small));
+          folded = ap (λ (z : ℤ). natAbs z * 2 + 1) (n .less) ∙ omega arith ∙ ap foldSigned (sym (n .is));
+        }
+
+    pub folds-other : SFits w v → ltZ same (pos 0) ≡ false → FoldsOther
+    folds-other f e =
+        let n = not-negative v f e in
+        record {
+          doubles = subst Doubled (sym (n .same)) (doubled (n .k) (n .small));
+          folded = ap (λ (z : ℤ). natAbs z * 2) (n .same) ∙ omega arith ∙ ap foldSigned (sym (n .is));
+        }
+
 -- ---- the two cases of the unfolding
 
-pub unfold-even : (n : ℕ) → n % 2 ≡ 0 → pos (n / 2) ≡ unfoldSigned n
-unfold-even n h = go (eqb (n % 2) 0) (eq-eqb _ _ h)
-  where
-    go : (b : Bool) → b ≡ true → pos (n / 2) ≡ elim b [ true ↦ pos (n / 2) | false ↦ negsuc (n / 2) ]
-    go true e = refl
-    go false e = absurd (false≢true e)
+module _ (w : Width) (n : ℕ) (h : n / 2 < 2 ^ hbits w) where
+  pub less-fits : SFits w (negsuc 0 -ℤ toZ w (n / 2))
+  less-fits = turned w (n / 2) h .fits
 
-pub unfold-odd : (n : ℕ) → ¬ (n % 2 ≡ 0) → negsuc (n / 2) ≡ unfoldSigned n
-unfold-odd n h = go (eqb (n % 2) 0) (ne-eqb _ _ h)
-  where
-    go : (b : Bool) → b ≡ false → negsuc (n / 2) ≡ elim b [ true ↦ pos (n / 2) | false ↦ negsuc (n / 2) ]
-    go true e = absurd (false≢true (sym e))
-    go false e = refl
+  case : Bool → ℤ
+  case b = elim b [ true ↦ pos (n / 2) | false ↦ negsuc (n / 2) ]
+
+  pub unfold-even : n % 2 ≡ 0 → toZ w (n / 2) ≡ unfoldSigned n
+  unfolding case
+  unfold-even e = toZ-pos w h ∙ sym (ap case (eq-eqb _ _ e))
+
+  pub unfold-odd : ¬ (n % 2 ≡ 0) → toZ w (ofZ w (negsuc 0 -ℤ toZ w (n / 2))) ≡ unfoldSigned n
+  unfolding case
+  unfold-odd e = turned w (n / 2) h .is ∙ sym (ap case (ne-eqb _ _ e))

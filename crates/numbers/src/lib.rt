@@ -28,7 +28,7 @@ fn refuse(question: u32) -> Number
 pub fn read_number(bytes: &[u8], at: usize) -> Number
     ensures { λ r. ⌜ r ≡ numberAt (now (bytes .entry)) at ⌝ }
 {
-    let count = leb128::byte_count(bytes, at);
+    let count = leb128::byte_count(bytes, at, 5);
     if count == 0 {
         return refuse(2);
     }

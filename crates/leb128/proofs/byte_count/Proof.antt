@@ -11,13 +11,13 @@ use Rattle.leb128.proofs.byte_count.Statement.{statement}
 use Rattle.leb128.proofs.byte_count.Tie as tie
 
 abbrev Inv-loop : tie.InvT-loop
-Inv-loop bytes at count₀ count = Counting (drop at bytes) count
+Inv-loop bytes at most count₀ count = Counting most (drop at bytes) count
 
 abbrev μ-loop : tie.MeasureT-loop
-μ-loop bytes at count₀ count = 5 - count
+μ-loop bytes at most count₀ count = most - count
 
 loop-holds : tie.Need-loop-holds Inv-loop μ-loop
-loop-holds c = counting-none _
+loop-holds c = counting-none _ _
 
 add-next : tie.Need-add-next Inv-loop μ-loop
 add-next c =
@@ -28,7 +28,7 @@ returns : tie.Need-returns Inv-loop μ-loop
 returns c =
     let a = c .before .before .before .args in
     let l = c .before .before .loop in
-    counted-end (drop (a .at) (a .bytes .now)) (l .count) (l .inv) (omega arith) (omega (arith, length-drop (a .at) (a .bytes .now)))
+    counted-end (a .most) (drop (a .at) (a .bytes .now)) (l .count) (l .inv) (omega arith) (omega (arith, length-drop (a .at) (a .bytes .now)))
 
 add-count : tie.Need-add-count Inv-loop μ-loop
 add-count c = search needs
@@ -48,7 +48,7 @@ returns-2 : tie.Need-returns-2 Inv-loop μ-loop
 returns-2 c =
     let a = c .before .before .before .before .before .args in
     let l = c .before .before .before .before .loop in
-    counted-last (drop (a .at) (a .bytes .now)) (l .count) (l .inv) (omega arith) (there (a .at) (l .count) (a .bytes .now) (omega arith))
+    counted-last (a .most) (drop (a .at) (a .bytes .now)) (l .count) (l .inv) (omega arith) (there (a .at) (l .count) (a .bytes .now) (omega arith))
     (omega (arith, byte-is (a .at) (l .count) (a .bytes .now)))
 
 loop-less : tie.Need-loop-less Inv-loop μ-loop
@@ -58,13 +58,13 @@ loop-again : tie.Need-loop-again Inv-loop μ-loop
 loop-again c =
     let a = c .before .before .before .before .before .args in
     let l = c .before .before .before .before .loop in
-    counting-more (drop (a .at) (a .bytes .now)) (l .count) (l .inv) (omega arith) (there (a .at) (l .count) (a .bytes .now) (omega arith))
+    counting-more (a .most) (drop (a .at) (a .bytes .now)) (l .count) (l .inv) (omega arith) (there (a .at) (l .count) (a .bytes .now) (omega arith))
     (omega (arith, byte-is (a .at) (l .count) (a .bytes .now)))
 
 returns-3 : tie.Need-returns-3 Inv-loop μ-loop
 returns-3 c =
     let a = c .before .before .args in
-    counted-most (drop (a .at) (a .bytes .now)) (c .before .loop .count) (c .before .loop .inv) (omega arith)
+    counted-most (a .most) (drop (a .at) (a .bytes .now)) (c .before .loop .count) (c .before .loop .inv) (omega arith) (omega arith)
 
 pub byte-count-spec : {M : Type 1} → statement M
 byte-count-spec =

@@ -25,8 +25,8 @@ both c =
     (λ w. let no = le-ltb (byte a) 128 (w .0 .left) in w .1 ∙ no ∙ sym (ap (λ (t : Bool). t && leb (a .args .value) 4294967295) no))
     (c .if1 .came)
 
-form : (c : tie.Start) → tested (byte c) (c .args .value) (length (c .args .number .now)) ≡ wellFormed width32 (c .args .number .now)
-form c = formed-is (c .args .number .now) (c .args .value) (omega arith) (omega arith)
+form : (c : tie.Start) → tested width32 (byte c) (c .args .value) (length (c .args .number .now)) ≡ wellFormed width32 (c .args .number .now)
+form c = formed-is width32 (c .args .number .now) (c .args .value) (omega arith) (omega arith)
 
 -- the third
 abbrev third : tie.Start → Bool

@@ -9,6 +9,7 @@ use borrow.Author.Tests.{not-false, not-true}
 use borrow.Author.Needs.{needs}
 use Rattle.guard.specs.Number.{valueOfGroups, wellFormed, width32}
 use Rattle.numbers.specs.Reader.{found}
+use Rattle.leb128.proofs.Count.{part-counted}
 use Rattle.leb128.proofs.Form.{formed-small}
 use Rattle.numbers.proofs.Counted.{answer-short, answer-malformed, answer-formed}
 use Rattle.numbers.proofs.read_number.Statement.{statement}
@@ -37,7 +38,7 @@ abbrev count : tie.After-well-formed → ℕ
 count c = c .before .before .before .before .byte-count .result
 
 number : (c : tie.After-well-formed) → take (at c + count c - at c) (drop (at c) (bytes c)) ≡ take (count c) (drop (at c) (bytes c))
-number c = let n : at c + count c - at c ≡ count c = omega arith in ap (λ (k : ℕ). take k (drop (at c) (bytes c))) n
+number c = part-counted (bytes c) (at c) (count c)
 
 verdict : (c : tie.After-well-formed) → wellFormed width32 (take (count c) (drop (at c) (bytes c))) ≡ c .well-formed .result
 verdict c = ap (wellFormed width32) (sym (number c)) ∙ sym (c .well-formed .ensures)
@@ -54,7 +55,7 @@ returns-2 c =
 cast-t12 : tie.Need-cast-t12
 cast-t12 c =
     let w = c .before in
-    record { fits = omega (arith, value w, formed-small (take (count w) (drop (at w) (bytes w))) (verdict w ∙ not-false _ (c .if2 .left))) }
+    record { fits = omega (arith, value w, formed-small width32 (take (count w) (drop (at w) (bytes w))) (verdict w ∙ not-false _ (c .if2 .left))) }
 
 returns-3 : tie.Need-returns-3
 returns-3 c =

@@ -1,30 +1,23 @@
 -- `numbers::unfold_signed` meets its contract, in the two cases of its test. Assumes nothing.
-use mathlib.Core.Path.{_∙_}
-use Prim.Native.Nat.{_/_}
+use Prim.Native.Nat.{_<_, _/_, _^_}
 use native.Mathlib.Omega.{arith}
 use mir.Syntax.{w32}
-use mir.Facts.{toZ-pos}
+use Rattle.numbers.proofs.Signed.{less-fits, unfold-even, unfold-odd}
 use borrow.Author.Needs.{needs}
-use Rattle.numbers.proofs.Signed.{Turned, turned, unfold-even, unfold-odd}
 use Rattle.numbers.proofs.unfold_signed.Statement.{statement}
 use Rattle.numbers.proofs.unfold_signed.Tie as tie
 
-cast-half : tie.Need-cast-half
-cast-half c = search needs
+half : (c : tie.Start) → c .args .n / 2 < 2 ^ 31
+half c = omega (arith, c .fits .n .fits)
 
 returns : tie.Need-returns
-returns c =
-    toZ-pos w32 {n = c .before .args .n / 2} (omega (arith, c .before .fits .n .fits)) ∙ unfold-even (c .before .args .n) (omega arith)
-
--- −1 − half
-less : (c : tie.Else1) → Turned w32 (c .before .args .n / 2)
-less c = turned w32 (c .before .args .n / 2) (omega (arith, c .before .fits .n .fits))
+returns c = unfold-even w32 (c .before .args .n) (half (c .before)) (omega arith)
 
 sub-result : tie.Need-sub-result
-sub-result c = less c .fits
+sub-result c = record { sfits = less-fits w32 (c .before .args .n) (half (c .before)) .sfits }
 
 returns-2 : tie.Need-returns-2
-returns-2 c = less c .is ∙ unfold-odd (c .before .args .n) (λ e. omega (arith, c .if1 .left))
+returns-2 c = unfold-odd w32 (c .before .args .n) (half (c .before)) (λ e. omega (arith, c .if1 .left))
 
 pub unfold-signed-spec : {M : Type 1} → statement M
-unfold-signed-spec = tie.close (tie.spec cast-half returns sub-result returns-2)
+unfold-signed-spec = tie.close (tie.spec (λ c. search needs) returns sub-result returns-2)
