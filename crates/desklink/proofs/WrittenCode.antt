@@ -30,5 +30,5 @@ module _ (w : FileWritten) (small : w .refused < 4294967296) where
   pub question-code : ¬ (w .refused ≡ 0) → toZ w64 (ofZ w64 (pos 0 -ℤ toZ w64 (w .refused))) ≡ writtenCode w
   question-code h = toZ-ofZ question-fits ∙ less ∙ sym (ap (λ (b : Bool). cond b (pos (w .bytes)) (minus (w .refused))) (ne-eqb (w .refused) 0 h))
 
-pub count-code : (w : FileWritten) → w .bytes ≤ 465 → w .refused ≡ 0 → toZ w64 (w .bytes) ≡ writtenCode w
+pub count-code : (w : FileWritten) → w .bytes ≤ 585 → w .refused ≡ 0 → toZ w64 (w .bytes) ≡ writtenCode w
 count-code w few e = toZ-pos w64 {n = w .bytes} (omega arith) ∙ sym (ap (λ (b : Bool). cond b (pos (w .bytes)) (minus (w .refused))) (eq-eqb (w .refused) 0 e))

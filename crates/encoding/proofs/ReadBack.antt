@@ -104,4 +104,4 @@ value-read-back n bs h = read-back-of valueWidth (omega arith) n bs h
 
 pub value-one-at-least : (n : ℕ) → 1 ≤ length (encodedValue n)
 unfolding encodedValue
-value-one-at-least n = some-group 4 n
+value-one-at-least n = some-group 9 n

@@ -74,4 +74,4 @@ written-back bs n rest h e = written-back-of width32 4 refl bs n rest h e
 
 pub value-written-back : (bs : List ℕ) (n : ℕ) (rest : List ℕ) → All (λ b. b < 256) bs → unsignedOf valueWidth bs ≡ accepted n rest → bs ≡ encodedValue n ++ rest
 unfolding encodedValue
-value-written-back bs n rest h e = written-back-of valueWidth 4 refl bs n rest h e
+value-written-back bs n rest h e = written-back-of valueWidth 9 refl bs n rest h e

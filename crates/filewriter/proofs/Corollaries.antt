@@ -15,7 +15,7 @@ use Rattle.guard.specs.File.{file}
 use Rattle.guard.specs.Guard.{Guard}
 use Rattle.guard.specs.Limits.{base}
 use Rattle.guard.specs.Number.{Parsed, Parsed.accepted, Parsed.refused}
-use Rattle.guard.proofs.Claims.{at-most-465, base-supported}
+use Rattle.guard.proofs.Claims.{at-most-585, base-supported}
 use Rattle.serialize.specs.NumberList.{listFile}
 use Rattle.serialize.specs.Tokens.{bytesOf, numbersOf}
 use Rattle.serialize.proofs.Theorems.{read-as-list, same-bytes}
@@ -56,20 +56,20 @@ read-written bs g rest n small e fits =
       ap (λ (p : Parsed Guard). leftBy p n) taken ∙ filled-with (bytesOf g) n room ∙ ap (λ (l : List ℕ). l ++ replicate (n - length l) 0) same,
     )
 
--- no file has more than 465 bytes, so a buffer of 465 is never too short
-written-bytes : (zs : List ℤ) (g : Guard) (rest : List ℕ) → listFile base zs ≡ accepted g rest → length (bytesOf g) ≤ 465
-written-bytes zs g rest e = at-most-465 (bytesOf g) g [] (read-as-list base base-supported zs g rest e .0)
+-- no file has more than 585 bytes, so a buffer of 585 is never too short
+written-bytes : (zs : List ℤ) (g : Guard) (rest : List ℕ) → listFile base zs ≡ accepted g rest → length (bytesOf g) ≤ 585
+written-bytes zs g rest e = at-most-585 (bytesOf g) g [] (read-as-list base base-supported zs g rest e .0)
 
-pub few-bytes : (zs : List ℤ) (n : ℕ) → answerTo (listFile base zs) n .bytes ≤ 465
+pub few-bytes : (zs : List ℤ) (n : ℕ) → answerTo (listFile base zs) n .bytes ≤ 585
 few-bytes zs n = go (listFile base zs) refl
   where
-    go : (p : Parsed Guard) → listFile base zs ≡ p → answerTo p n .bytes ≤ 465
+    go : (p : Parsed Guard) → listFile base zs ≡ p → answerTo p n .bytes ≤ 585
     go (refused q) e = omega arith
     go (accepted g rest) e =
-        by-test (leb (length (bytesOf g)) n) (λ q. subst (λ (w : FileWritten). w .bytes ≤ 465) (sym (by-room g n true q)) (written-bytes zs g rest e))
-        (λ q. subst (λ (w : FileWritten). w .bytes ≤ 465) (sym (by-room g n false q)) (omega arith))
+        by-test (leb (length (bytesOf g)) n) (λ q. subst (λ (w : FileWritten). w .bytes ≤ 585) (sym (by-room g n true q)) (written-bytes zs g rest e))
+        (λ q. subst (λ (w : FileWritten). w .bytes ≤ 585) (sym (by-room g n false q)) (omega arith))
 
-pub never-short : (zs : List ℤ) (g : Guard) (rest : List ℕ) (n : ℕ) → listFile base zs ≡ accepted g rest → 465 ≤ n → answerTo (listFile base zs) n .refused ≡ 0
+pub never-short : (zs : List ℤ) (g : Guard) (rest : List ℕ) (n : ℕ) → listFile base zs ≡ accepted g rest → 585 ≤ n → answerTo (listFile base zs) n .refused ≡ 0
 never-short zs g rest n e h =
     ap (λ (p : Parsed Guard). answerTo p n .refused) e
     ∙ ap (λ (w : FileWritten). w .refused) (by-room g n true (le-leb (length (bytesOf g)) n (omega (arith, written-bytes zs g rest e))))

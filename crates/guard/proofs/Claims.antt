@@ -59,6 +59,6 @@ module _ (limits : Limits) (bytes : List ℕ) (g : Guard) (a : Accepts limits by
   pub length-bound : length bytes ≤ longestFile limits
   length-bound = accepted-length limits (a .supported) bytes g [] (a .accepts)
 
--- "No accepted file is longer than 465 bytes."
-pub at-most-465 : (bytes : List ℕ) (g : Guard) (rest : List ℕ) → file base bytes ≡ accepted g rest → length bytes ≤ 465
-at-most-465 bytes g rest e = accepted-length base base-supported bytes g rest e
+-- "No accepted file is longer than 585 bytes."
+pub at-most-585 : (bytes : List ℕ) (g : Guard) (rest : List ℕ) → file base bytes ≡ accepted g rest → length bytes ≤ 585
+at-most-585 bytes g rest e = accepted-length base base-supported bytes g rest e

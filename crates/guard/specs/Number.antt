@@ -56,12 +56,13 @@ pub record Width : Type 0 where
 abbrev pub width32 : Width
 width32 = record { bytes = 5; most = 4294967295 }
 
--- document 02, #104: "Signed values now run over 64 bits, with up to ten bytes and at most 18,446,744,073,709,551,615 as
--- written"; "Counts and names keep five."
+-- document 02, #104: "with up to ten bytes and at most 18,446,744,073,709,551,615 as written"; "Counts and names keep
+-- five."
 abbrev pub width64 : Width
 width64 = record { bytes = 10; most = 18446744073709551615 }
 
--- question 2: "Is the number's last byte in the file? A fifth byte with bit 80 set counts here as its end."
+-- question 2: "Is the number's last byte in the file? A fifth byte with bit 80 set counts here as its end." Document 02,
+-- #104: "a tenth byte with bit 80 counts as the end"
 abbrev pub groups : ℕ → Parser (List ℕ)
 groups zero bs = accepted [] bs
 groups (suc k) [] = refused 2
@@ -90,12 +91,12 @@ unsigned = unsignedOf width32
 
 -- ---- signed values
 
--- how long the value of a constant may be, and how large, as it is written
+-- document 02, #104: "Signed values now run over 64 bits"
 abbrev pub valueWidth : Width
-valueWidth = width32
+valueWidth = width64
 
--- "A signed value v from −2,147,483,648 to 2,147,483,647 is written as 2 × v when v is 0 or more and as −2 × v − 1
--- when it is negative." `negsuc n` is −1 − n.
+-- "A signed value v [...] is written as 2 × v when v is 0 or more and as −2 × v − 1 when it is negative." `negsuc n` is
+-- −1 − n.
 abbrev pub foldSigned : ℤ → ℕ
 foldSigned (pos n) = 2 * n
 foldSigned (negsuc n) = 2 * n + 1

@@ -12,6 +12,7 @@ use Rattle.guard.specs.Message.{Message, Message.number, Message.made, t
 use Rattle.guard.specs.Types.{Types, Variant, variantsOf, fieldsOf, isNumber}
 use Rattle.guard.specs.Guard.{Guard}
 use Rattle.guard.specs.Meaning.{values, Holds}
+use Rattle.guard.specs.Words.{isWord, valueOf}
 
 -- ---- rows as numbers
 
@@ -48,10 +49,11 @@ partMessages ms (f ∷ fs) [] = []
 partMessages ms (f ∷ fs) (x ∷ xs) = getD ms (natural x) noMessage ∷ partMessages ms fs xs
 
 -- the message of a row, from the messages of the rows before it. "A message of type t and variant v has 16 × t + v, then
--- the rows of its parts"; "A number of type t has −1 − t, then its value."
+-- the rows of its parts"; document 02, #104: "A number's row holds −1 − t, then the low 32 bits as a signed number, then
+-- the value divided by 4,294,967,296 rounded down."
 abbrev pub decodeRow : Types → List Message → List ℤ → Message
 decodeRow ts ms [] = noMessage
-decodeRow ts ms (negsuc t ∷ xs) = number t (getD xs 0 (pos 0))
+decodeRow ts ms (negsuc t ∷ xs) = number t (valueOf (getD xs 0 (pos 0)) (getD xs 1 (pos 0)))
 decodeRow ts ms (pos k ∷ xs) = made (tagType k) (tagVariant k) (toParts (partMessages ms (fieldsOf ts (tagType k) (tagVariant k)) xs))
 
 -- the messages of the first n rows
@@ -74,7 +76,7 @@ partsFit ms i (f ∷ fs) (x ∷ xs) = isBelow i x && (eqb (messageType (getD ms 
 -- row i is laid out right over the messages of the rows before it
 abbrev pub rowFits : Types → List Message → ℕ → List ℤ → Bool
 rowFits ts ms i [] = false
-rowFits ts ms i (negsuc t ∷ xs) = ltb t (length ts) && (isNumber ts t && all isZero (drop 1 xs))
+rowFits ts ms i (negsuc t ∷ xs) = ltb t (length ts) && (isNumber ts t && (isWord (getD xs 0 (pos 0)) && all isZero (drop 2 xs)))
 rowFits ts ms i (pos k ∷ xs) = ltb (tagVariant k) (length (variantsOf ts (tagType k))) && partsFit ms i (fieldsOf ts (tagType k) (tagVariant k)) xs
 
 -- "Number i of the place buffer is the row of term i."

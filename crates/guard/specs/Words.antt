@@ -1,4 +1,4 @@
--- A value of 64 bits as two numbers of 32, for the rows of document 02's request #104. Assumes nothing.
+-- A value of 64 bits as two numbers of 32, as rows have it (document 02, #104). Assumes nothing.
 use mathlib.Core.Bool.{Bool, cond}
 use Prim.Native.Nat.{ℕ, _+_, _*_, _-_, _/_, _%_}
 use lib.Dec.{ltb}

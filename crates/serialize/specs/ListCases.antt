@@ -1,8 +1,9 @@
 -- Lists for the cases of document 01, and lists that are refused. Assumes nothing.
 use mathlib.Core.Path.{_≡_, refl}
-use mathlib.Core.List.{List, [], _∷_, map}
+use mathlib.Core.List.{List, [], _∷_, _++_, map}
 use Prim.Native.Nat.{ℕ}
 use lib.IntN.{ℤ, pos, negsuc}
+use lib.ListN.{replicate}
 use Rattle.guard.specs.Cases.{fileC, fileH, fileJ}
 use Rattle.guard.specs.Guard.{Guard}
 use Rattle.guard.specs.Limits.{base}
@@ -47,12 +48,11 @@ cases =
     -- case j: "values −3 and 4"
     ∷ record { numbers = pos 1 ∷ pos 0 ∷ pos 2 ∷ pos 1 ∷ pos 0 ∷ negsuc 2 ∷ pos 1 ∷ pos 0 ∷ pos 4 ∷ pos 1 ∷ pos 0 ∷ pos 0 ∷ pos 1 ∷ []; question = 0; bytes = fileJ }
     -- both ends of the values
-    ∷ record { numbers = constant-of (pos 2147483647); question = 0; bytes = 1 ∷ 0 ∷ 1 ∷ 1 ∷ 0 ∷ 0xFE ∷ 0xFF ∷ 0xFF ∷ 0xFF ∷ 0x0F ∷ 0 ∷ [] }
-    ∷ record { numbers = constant-of (negsuc 2147483647); question = 0; bytes = 1 ∷ 0 ∷ 1 ∷ 1 ∷ 0 ∷ 0xFF ∷ 0xFF ∷ 0xFF ∷ 0xFF ∷ 0x0F ∷ 0 ∷ [] }
-    -- "a constant beyond 32 bits gets 3"
-    ∷ refuses 3 (constant-of (pos 2147483648))
-    ∷ refuses 3 (constant-of (negsuc 2147483648))
-    ∷ refuses 3 (constant-of (negsuc 9223372036854775807))
+    ∷ record { numbers = constant-of (pos 9223372036854775807); question = 0; bytes = 1 ∷ 0 ∷ 1 ∷ 1 ∷ 0 ∷ 0xFE ∷ replicate 8 0xFF ++ (0x01 ∷ 0 ∷ []) }
+    ∷ record { numbers = constant-of (negsuc 9223372036854775807); question = 0; bytes = 1 ∷ 0 ∷ 1 ∷ 1 ∷ 0 ∷ replicate 9 0xFF ++ (0x01 ∷ 0 ∷ []) }
+    -- beyond 64 bits, where no caller's numbers are
+    ∷ refuses 3 (constant-of (pos 9223372036854775808))
+    ∷ refuses 3 (constant-of (negsuc 9223372036854775808))
     -- "A list that stops early gets 2"
     ∷ refuses 2 []
     ∷ refuses 2 (pos 1 ∷ [])

@@ -10,8 +10,8 @@ use Rattle.desklink.proofs.WrittenCode.{count-code, question-code, ques
 use Rattle.desklink.proofs.guarddesk_write.Statement.{statement}
 use Rattle.desklink.proofs.guarddesk_write.Tie as tie
 
-few : (c : tie.After-write) → c .write .result .bytes ≤ 465
-few c = subst (λ (w : FileWritten). w .bytes ≤ 465) (sym (c .write .ensures .0)) (few-bytes _ _)
+few : (c : tie.After-write) → c .write .result .bytes ≤ 585
+few c = subst (λ (w : FileWritten). w .bytes ≤ 585) (sym (c .write .ensures .0)) (few-bytes _ _)
 
 sub-result : tie.Need-sub-result
 sub-result c = let w = c .before .before .before .before .before in question-fits (w .write .result) (omega arith)
