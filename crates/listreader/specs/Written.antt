@@ -4,13 +4,17 @@ use mathlib.Core.List.{List, map}
 use Prim.Native.Nat.{ℕ, _≤_}
 use lib.IntN.{ℤ}
 use lib.ListN.{length, take}
-use Rattle.guard.specs.Number.{foldSigned}
-use Rattle.listreader.specs.Plain.{plainOf, room, wideIn}
-use Rattle.listreader.specs.declared.Plain.{Plain}
+use Rattle.laws.specs.All.{All}
+use Rattle.guard.specs.Number.{foldSigned, valueWidth}
+use Rattle.listreader.specs.Plain.{plainOf, room}
 
--- the first bytes of the array are the plain bytes, and it is told whether they stop at a wide number
-pub record Written (list : List ℤ) (out : List ℕ) (r : Plain) : Type 0 where
-  pub many : r .many ≤ room
+-- a number that can be a constant's value, folded
+abbrev pub Narrow : ℕ → Type 0
+Narrow w = w ≤ valueWidth .most
+
+-- the first bytes of the array are the plain bytes, and every number that was looked at has 64 bits
+pub record Written (list : List ℤ) (out : List ℕ) (many : ℕ) : Type 0 where
+  pub few : many ≤ room
   pub long : length out ≡ room
-  pub bytes : take (r .many) out ≡ plainOf room (map foldSigned list)
-  pub wide : r .wide ≡ wideIn room (map foldSigned list)
+  pub bytes : take many out ≡ plainOf room (map foldSigned list)
+  pub narrow : All Narrow (take room (map foldSigned list))

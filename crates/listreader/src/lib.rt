@@ -8,15 +8,8 @@ ghost use Rattle.guard.specs.Limits.{base};
 ghost use Rattle.guard.specs.Number.{foldSigned};
 ghost use Rattle.serialize.specs.NumberList.{listFile};
 ghost use Rattle.listreader.specs.ListReader.{ReadsList};
-ghost use Rattle.listreader.specs.Plain.{plainByte, room, wide};
+ghost use Rattle.listreader.specs.Plain.{plainByte, room};
 ghost use Rattle.listreader.specs.Written.{Written};
-
-// Whether a number is beyond 32 bits, so that it is no constant's value.
-fn is_wide(x: i64) -> bool
-    ensures { λ r. ⌜ r ≡ wide (foldSigned x) ⌝ }
-{
-    x < -2147483648 || 2147483647 < x
-}
 
 // The byte that stands for a number.
 fn plain_byte(x: i64) -> u8
@@ -28,41 +21,28 @@ fn plain_byte(x: i64) -> u8
     x as u8
 }
 
-// How many plain bytes there are, and whether they stop at a number beyond 32 bits.
-struct Plain {
-    many: usize,
-    wide: bool,
-}
-
-// Writes the plain bytes of the list. No file has more than 441 numbers, so the 442nd already shows that the list goes on.
-fn plain_bytes(list: &[i64], out: &mut [u8; 448]) -> Plain
+// Writes the plain bytes of the list, and tells how many they are. No file has more than 441 numbers, so the 442nd already shows that the
+// list goes on.
+fn plain_bytes(list: &[i64], out: &mut [u8; 448]) -> usize
     requires { ⌜ length (now out) ≡ room ⌝ }
-    ensures { λ r. ⌜ Written (now (list .entry)) (now (out .exit)) r ⌝ }
+    ensures { λ many. ⌜ Written (now (list .entry)) (now (out .exit)) many ⌝ }
 {
     let mut many: usize = 0;
     while many < 448 && many < list.len() {
         let x = list[many];
         out[many] = plain_byte(x);
         many += 1;
-        if is_wide(x) {
-            return Plain { many, wide: true };
-        }
     }
-    Plain { many, wide: false }
+    many
 }
 
 // The tables of a guard file given as a list of its numbers, but for the values of its constants; or the first question of
-// document 01 that gets a no, and empty tables.
+// document 01 that gets a no, and empty tables. Document 02, #104: "The writer's 3 no longer occurs."
 pub fn read_list(list: &[i64]) -> Tables
     ensures { λ r. ⌜ ReadsList (listFile base (now (list .entry))) r ⌝ }
+    ensures { λ r. ⌜ ¬ (r .refused ≡ 3) ⌝ }
 {
     let mut out = [0u8; 448];
-    let p = plain_bytes(list, &mut out);
-    let many = p.many;
-    let mut t = reader::read(&out[..many], 6, 24, 32);
-    // The value beyond 32 bits was the last byte, and then the bytes ended.
-    if p.wide && t.refused == 2 {
-        t.refused = 3;
-    }
-    t
+    let many = plain_bytes(list, &mut out);
+    reader::read(&out[..many], 6, 24, 32)
 }

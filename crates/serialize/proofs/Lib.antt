@@ -1,3 +1,4 @@
 pub mod Copying
 pub mod CopiedFile
 pub mod Theorems
+pub mod Questions

@@ -24,7 +24,8 @@ abbrev pub unsignedBy : ℤ → ℕ
 unsignedBy (pos n) = n
 unsignedBy (negsuc n) = beyond
 
--- "a constant beyond 32 bits gets 3"
+-- "a constant beyond 32 bits gets 3"; document 02, #104: "Signed values now run over 64 bits". The writer's numbers have no more, so
+-- its 3 "no longer occurs".
 abbrev pub fits : ℕ → Parser ℕ
 fits w = do
   ask 3 (leb w (valueWidth .most))

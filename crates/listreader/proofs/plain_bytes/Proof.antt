@@ -1,5 +1,5 @@
--- `listreader::plain_bytes`: what is written, and the plain bytes of the numbers that are left, are all plain bytes. Assumes nothing.
-use mathlib.Core.Path.{_≡_, refl, sym, _∙_}
+-- `listreader::plain_bytes`: what is written are the plain bytes of the numbers so far. Assumes nothing.
+use mathlib.Core.Path.{_≡_, refl, subst, sym}
 use mathlib.Core.Logic.{inl, inr}
 use mathlib.Core.List.{List}
 use Prim.Native.Nat.{_-_}
@@ -11,8 +11,11 @@ use mir.Val.{SFits, ofZ, toZ}
 use mir.Facts.{toZ-ofZ}
 use borrow.Author.Needs.{needs}
 use borrow.Author.Tests.{ltb-false, ltb-true}
-use Rattle.listreader.proofs.PlainLaws.{Front, all-written, front-next, stopped}
+use Rattle.listreader.proofs.PlainLaws.{Front, all-written, fold-narrow, front-next}
+use Rattle.laws.specs.All.{All.none}
+use Rattle.guard.specs.Number.{foldSigned}
 use Rattle.listreader.specs.Plain.{room}
+use Rattle.listreader.specs.Written.{Narrow}
 use Rattle.listreader.proofs.plain_bytes.Statement.{statement}
 use Rattle.listreader.proofs.plain_bytes.Tie as tie
 
@@ -36,7 +39,7 @@ at : (c : tie.After-x Inv-loop μ-loop) → number c ≡ x c
 at c = let fits : SFits w64 (number c) = record { sfits = c .x .given } in sym (toZ-ofZ fits)
 
 loop-holds : tie.Need-loop-holds Inv-loop μ-loop
-loop-holds c = record { few = omega arith; within = omega arith; long = c .pre; bytes = refl; wide = refl }
+loop-holds c = record { few = omega arith; within = omega arith; long = c .pre; bytes = refl; narrow = none }
 
 mul-x : tie.Need-mul-x Inv-loop μ-loop
 mul-x c = search needs
@@ -53,33 +56,24 @@ element-write-out c = search needs
 add-many : tie.Need-add-many Inv-loop μ-loop
 add-many c = search needs
 
-is-wide-requires : tie.Need-is-wide-requires Inv-loop μ-loop
-is-wide-requires c κs = search needs
-
-returns : tie.Need-returns Inv-loop μ-loop
-returns c =
-    let l = c .before .before .before .before .before .before .loop in
-    let b = c .before .before .plain-byte in
-    stopped (list (c .before .before .before)) (l .out) (l .many) (l .inv) (x (c .before .before .before)) (b .result) (omega arith) (omega (arith, ltb-true)) (at (c .before .before .before)) (b .ensures)
-    (sym (c .before .is-wide .ensures) ∙ c .if2 .taken)
-
 loop-less : tie.Need-loop-less Inv-loop μ-loop
 loop-less c = search needs
 
 loop-again : tie.Need-loop-again Inv-loop μ-loop
 loop-again c =
-    let l = c .before .before .before .before .before .before .loop in
-    let b = c .before .before .plain-byte in
-    front-next (list (c .before .before .before)) (l .out) (l .many) (l .inv) (x (c .before .before .before)) (b .result) (omega arith) (omega (arith, ltb-true)) (at (c .before .before .before)) (b .ensures)
-    (sym (c .before .is-wide .ensures) ∙ c .if2 .left)
+    let l = c .before .before .before .before .loop in
+    let b = c .plain-byte in
+    let fits : SFits w64 (number (c .before)) = record { sfits = c .before .x .given } in
+    front-next (list (c .before)) (l .out) (l .many) (l .inv) (x (c .before)) (b .result) (omega arith) (omega (arith, ltb-true)) (at (c .before)) (b .ensures)
+    (subst (λ (z : ℤ). Narrow (foldSigned z)) (at (c .before)) (fold-narrow (number (c .before)) fits))
 
-returns-2 : tie.Need-returns-2 Inv-loop μ-loop
-returns-2 c =
+returns : tie.Need-returns Inv-loop μ-loop
+returns c =
     let l = c .before .before .loop in
     all-written (c .before .before .before .args .list .now) (l .out) (l .many) (l .inv) (inl (omega (arith, ltb-false)))
 
-returns-3 : tie.Need-returns-3 Inv-loop μ-loop
-returns-3 c =
+returns-2 : tie.Need-returns-2 Inv-loop μ-loop
+returns-2 c =
     let l = c .before .loop in
     all-written (c .before .before .args .list .now) (l .out) (l .many) (l .inv) (inr (omega arith))
 
@@ -95,9 +89,7 @@ plain-bytes-spec =
     plain-byte-requires
     element-write-out
     add-many
-    is-wide-requires
-    returns
     loop-less
     loop-again
-    returns-2
-    returns-3)
+    returns
+    returns-2)
