@@ -7,7 +7,7 @@ ghost use Rattle.refutations.specs.Checker.{checked};
 ghost use Rattle.recordchecker.specs.Checks.{answer};
 ghost use Rattle.serialize.specs.NumberList.{listFile};
 ghost use Rattle.filewriter.specs.Writer.{answerTo, leftBy};
-ghost use Rattle.desklink.specs.Links.{Links, LinksExplained, writtenCode};
+ghost use Rattle.desklink.specs.Links.{Links, LinksExplained, minus, writtenCode};
 
 // The answer to a guard file within a budget of nodes, as three numbers in `numbers`; the rest as `decide` has it. Returns
 // 0, or 1 if `numbers` is too short for an answer; then nothing is written.
@@ -64,6 +64,7 @@ pub extern "C" fn guarddesk_check(file: &[u8], record: &[u8]) -> u32
 #[no_mangle]
 pub extern "C" fn guarddesk_write(list: &[i64], out: &mut [u8]) -> i64
     ensures { λ r. ⌜ r ≡ writtenCode (answerTo (listFile base (now (list .entry))) (length (now (out .entry)))) ⌝ }
+    ensures { λ r. ⌜ ¬ (r ≡ minus 3) ⌝ }
     ensures { λ r. ⌜ now (out .exit) ≡ leftBy (listFile base (now (list .entry))) (length (now (out .entry))) ⌝ }
 {
     let w = filewriter::write(list, out);

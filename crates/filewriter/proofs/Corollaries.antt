@@ -20,7 +20,7 @@ use Rattle.serialize.specs.NumberList.{listFile}
 use Rattle.serialize.specs.Tokens.{bytesOf, numbersOf}
 use Rattle.serialize.proofs.Theorems.{read-as-list, same-bytes}
 use Rattle.bytebuffer.proofs.FillLaws.{filled-with}
-use Rattle.listreader.proofs.ListReaderLaws.{list-question}
+use Rattle.serialize.proofs.Questions.{list-question}
 use Rattle.filewriter.specs.declared.FileWritten.{FileWritten}
 use Rattle.filewriter.specs.Writer.{answerTo, leftBy}
 
@@ -33,7 +33,7 @@ pub written-read : (zs : List ℤ) (n : ℕ) → answerTo (listFile base zs) n .
 written-read zs n z = go (listFile base zs) refl z
   where
     go : (p : Parsed Guard) → listFile base zs ≡ p → answerTo p n .refused ≡ 0 → (g : Guard) × (file base (take (answerTo p n .bytes) (leftBy p n)) ≡ accepted g []) × (numbersOf g ≡ zs)
-    go (refused q) e z = absurd (omega (arith, list-question zs q e))
+    go (refused q) e z = absurd (omega (arith, list-question base zs q e))
     go (accepted g rest) e z =
         let (back, same) = read-as-list base base-supported zs g rest e in
         by-test (leb (length (bytesOf g)) n)

@@ -4,17 +4,16 @@ use mathlib.Core.Bool.{true, false}
 use mathlib.Core.List.{List, [], _∷_, _++_, append-nil, map}
 use Prim.Native.Nat.{ℕ, zero, suc, _+_, _≤_, _<_}
 use native.Mathlib.Omega.{arith}
-use lib.IntN.{ℤ, pos, negsuc}
+use lib.IntN.{ℤ, pos}
 use lib.ListN.{length, getD, drop, take, length-map}
 use lib.Seq.{take-all}
-use mir.Syntax.{w32}
-use mir.Val.{SFits}
 use Rattle.laws.specs.Lists.{concatMap}
 use Rattle.laws.proofs.Lists.{all-getD}
-use Rattle.guard.specs.Number.{foldSigned, width32}
+use Rattle.guard.specs.Number.{foldSigned, width32, width64}
 use Rattle.tables.proofs.Columns.{pad-get}
 use Rattle.tables.proofs.Lookups.{map-at}
-use Rattle.encoding.specs.Encoding.{encoded, encodedValue}
+use Rattle.encoding.specs.Encoding.{encodedOf, encodedValue}
+use Rattle.encoding.proofs.ReadBack.{same-encoded}
 use Rattle.serialize.specs.Tokens.{Fits, Token, Token.plain, Token.value, listed, tokenBytes, unsignedOf}
 use Rattle.serialize.proofs.Copying.{concatMap-append}
 use Rattle.bytebuffer.specs.declared.End.{End}
@@ -24,11 +23,6 @@ use Rattle.valuemarks.specs.Marks.{markOf, room}
 use Rattle.filewriter.specs.Marking.{Marked, NumberMarked, WrittenAs}
 
 -- ---- one token
-
-pub value-fits : (k : Token) → markOf k ≡ 1 → Fits k → SFits w32 (listed k)
-value-fits (plain n) e h = absurd (omega (arith, e))
-value-fits (value (pos n)) e h = record { sfits = omega arith }
-value-fits (value (negsuc n)) e h = record { sfits = omega arith }
 
 pub value-folded : (k : Token) → markOf k ≡ 1 → foldSigned (listed k) ≡ unsignedOf k
 value-folded (plain n) e = absurd (omega (arith, e))
@@ -42,11 +36,11 @@ pub plain-fits : (k : Token) → ¬ (markOf k ≡ 1) → Fits k → unsignedOf k
 plain-fits (plain n) h f = f
 plain-fits (value z) h f = absurd (h refl)
 
--- values have the bytes of any number
-pub token-encoded : (k : Token) → encoded (unsignedOf k) ≡ tokenBytes k
-unfolding encoded encodedValue
-token-encoded (plain n) = refl
-token-encoded (value z) = refl
+-- a count or a name has the bytes that it has among values
+pub token-encoded : (k : Token) → Fits k → encodedOf width64 (unsignedOf k) ≡ tokenBytes k
+unfolding encodedValue
+token-encoded (plain n) h = same-encoded n h
+token-encoded (value z) h = refl
 
 -- ---- a list and its marks
 
@@ -87,11 +81,11 @@ module _ {list : List ℤ} {marks : List ℕ} {ks : List Token} (m : Marked list
     written-is x e n w = w .is (tokenAt ks i) (sym e ∙ number-is) mark-is
 
     module _ {out out′ : List ℕ} {at : ℕ} (p : Puts (bytes (take i ks)) out 0 (record { fits = true; at = at }) out′) (x : ℤ) (ex : getD list i (pos 0) ≡ x) (n : ℕ) (w : WrittenAs x (getD marks i 0) n)
-        {r : End} {out″ : List ℕ} (q : Puts (encoded n) out′ at r out″) where
+        {r : End} {out″ : List ℕ} (q : Puts (encodedOf width64 n) out′ at r out″) where
       one-more : Puts (bytes (take (suc i) ks)) out 0 r out″
       one-more =
           same-bytes (and-then p refl q)
-          (ap (λ (l : List ℕ). bytes (take i ks) ++ l) (ap encoded (written-is x ex n w) ∙ token-encoded (tokenAt ks i) ∙ sym (append-nil (tokenBytes (tokenAt ks i))))
+          (ap (λ (l : List ℕ). bytes (take i ks) ++ l) (ap (encodedOf width64) (written-is x ex n w) ∙ token-encoded (tokenAt ks i) (all-getD (m .fit) i (plain 0) in-tokens) ∙ sym (append-nil (tokenBytes (tokenAt ks i))))
           ∙ sym (concatMap-append tokenBytes (take i ks) (tokenAt ks i ∷ [])) ∙ ap bytes (sym (take-next ks i in-tokens)))
 
       pub next-puts : r .fits ≡ true → Puts (bytes (take (i + 1) ks)) out 0 (record { fits = true; at = r .at }) out″

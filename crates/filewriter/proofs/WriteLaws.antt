@@ -25,7 +25,7 @@ use Rattle.bytebuffer.specs.declared.End.{End}
 use Rattle.bytebuffer.specs.Puts.{Puts}
 use Rattle.bytebuffer.proofs.FillLaws.{ends-there, fills, fits-room, outgrows}
 use Rattle.listreader.specs.ListReader.{ReadsList, valueless, valuelessRow, valuelessRows}
-use Rattle.listreader.proofs.ListReaderLaws.{list-question}
+use Rattle.serialize.proofs.Questions.{list-question}
 use Rattle.valuemarks.specs.Marks.{Listed, marksOf, room, untilLines}
 use Rattle.valuemarks.proofs.Midway.{all-length, lines}
 use Rattle.filewriter.specs.Marking.{Marked}
@@ -71,7 +71,7 @@ pub taken : (zs : List ℤ) (t : Tables) → ReadsList (listFile base zs) t → 
 taken zs t r z = go (listFile base zs) refl r
   where
     go : (p : Parsed Guard) → listFile base zs ≡ p → ReadsList p t → Taken zs t
-    go (refused q) e h = absurd (omega (arith, list-question zs q e, sym (ap (λ (x : Tables). x .refused) h ∙ refused-is q) ∙ z))
+    go (refused q) e h = absurd (omega (arith, list-question base zs q e, sym (ap (λ (x : Tables). x .refused) h ∙ refused-is q) ∙ z))
     go (accepted g rest) e (h, i, s) = record { guard = g; rest = rest; is = e; shown = h; tables = i; same = s }
 
 -- ---- columns of rows don't show values

@@ -8,18 +8,18 @@ ghost use Rattle.filewriter.specs.Marking.{HasTokens, NumberMarked, Puts
 ghost use Rattle.filewriter.specs.Writer.{answerTo, leftBy};
 
 // What a number of the list is written as. A value is folded.
-fn written_number(x: i64, mark: u8) -> u32
+fn written_number(x: i64, mark: u8) -> u64
     requires { ⌜ NumberMarked x mark ⌝ }
     ensures { λ r. ⌜ WrittenAs x mark r ⌝ }
 {
     if mark == 1 {
-        return numbers::fold_signed(x as i32);
+        return values::fold(x);
     }
-    x as u32
+    x as u64
 }
 
 // The bytes of all numbers, from the start of the buffer on.
-fn put_numbers(list: &[i64], marks: &[u8; 512], out: &mut [u8]) -> End
+fn put_numbers(list: &[i64], marks: &[u8; 640], out: &mut [u8]) -> End
     requires { ⌜ HasTokens (now list) (now marks) ⌝ }
     ensures { λ r. ⌜ PutsTokens (now (list .entry)) (now (marks .entry)) (now (out .entry)) r (now (out .exit)) ⌝ }
 {
@@ -46,9 +46,10 @@ pub struct FileWritten {
 }
 
 // Fills the buffer with the bytes of the list and zeros behind them; with zeros alone where the list is refused, or its bytes
-// outgrow the buffer.
+// outgrow the buffer. Document 02, #104: "The writer's 3 no longer occurs."
 pub fn write(list: &[i64], out: &mut [u8]) -> FileWritten
     ensures { λ r. ⌜ r ≡ answerTo (listFile base (now (list .entry))) (length (now (out .entry))) ⌝ }
+    ensures { λ r. ⌜ ¬ (r .refused ≡ 3) ⌝ }
     ensures { λ r. ⌜ now (out .exit) ≡ leftBy (listFile base (now (list .entry))) (length (now (out .entry))) ⌝ }
 {
     bytebuffer::clear(out);
@@ -62,7 +63,7 @@ pub fn write(list: &[i64], out: &mut [u8]) -> FileWritten
     let literals = t.literals;
     // Behind the rows stand L and three numbers for each line.
     let rows_end = list.len() - 1 - 3 * literals.many;
-    let mut marks = [0u8; 512];
+    let mut marks = [0u8; 640];
     valuemarks::mark_values(t.types, t.rows, rows_end, &mut marks);
     let end = put_numbers(list, &marks, out);
     if !end.fits {

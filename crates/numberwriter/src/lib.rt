@@ -4,11 +4,12 @@ ghost use mathlib.Core.Path.{_≡_};
 ghost use Prim.Native.Nat.{_≤_};
 ghost use lib.ListN.{length};
 ghost use Rattle.guard.specs.Number.{width64};
-ghost use Rattle.encoding.specs.Encoding.{encoded, encodedOf};
+ghost use Rattle.encoding.specs.Encoding.{encodedOf};
 ghost use Rattle.bytebuffer.specs.Puts.{Puts};
 
-// The bytes of a number of 64 bits from place `at` on, if they fit: up to ten, as the values of document 02's request #104 have.
-pub fn put_value(out: &mut [u8], at: usize, n: u64) -> End
+// The bytes of a number of 64 bits from place `at` on, if they fit: up to ten, as a constant's value may have. Counts and names have the same bytes as
+// they have among numbers of 32 bits.
+pub fn put_number(out: &mut [u8], at: usize, n: u64) -> End
     requires { ⌜ at ≤ length (now out) ⌝ }
     ensures { λ r. ⌜ Puts (encodedOf width64 n) (now (out .entry)) at r (now (out .exit)) ⌝ }
 {
@@ -30,12 +31,4 @@ pub fn put_value(out: &mut [u8], at: usize, n: u64) -> End
         fits: true,
         at: next + 1,
     }
-}
-
-// The bytes of a number from place `at` on, if they fit. They are those that it has among numbers of 64 bits.
-pub fn put_number(out: &mut [u8], at: usize, n: u32) -> End
-    requires { ⌜ at ≤ length (now out) ⌝ }
-    ensures { λ r. ⌜ Puts (encoded n) (now (out .entry)) at r (now (out .exit)) ⌝ }
-{
-    put_value(out, at, n as u64)
 }

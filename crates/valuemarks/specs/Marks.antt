@@ -17,9 +17,9 @@ abbrev pub markOf : Token → ℕ
 markOf (plain n) = 0
 markOf (value z) = 1
 
--- room for the numbers of any file: each has a byte at least, and no file is longer than 465
+-- room for the numbers of any file: each has a byte at least, and no file is longer than 585
 abbrev pub room : ℕ
-room = 512
+room = 640
 
 unfoldable pub marksOf : Guard → List ℕ
 marksOf g = pad room (map markOf (guardTokens g))

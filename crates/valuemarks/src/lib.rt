@@ -28,7 +28,7 @@ fn row_numbers(types: TypeTable, rows: RowTable, r: usize) -> usize
 }
 
 // Marks the places of the values with 1. The rows end before place `end`, and are looked at from the last one on.
-pub fn mark_values(types: TypeTable, rows: RowTable, end: usize, marks: &mut [u8; 512])
+pub fn mark_values(types: TypeTable, rows: RowTable, end: usize, marks: &mut [u8; 640])
     requires { ⌜ Unmarked types rows end (now marks) ⌝ }
     ensures { λ _. ⌜ MarksValues types rows end (now (marks .exit)) ⌝ }
 {

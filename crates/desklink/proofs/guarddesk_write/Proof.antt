@@ -6,7 +6,7 @@ use borrow.Author.Needs.{needs}
 use Rattle.filewriter.specs.declared.FileWritten.{FileWritten}
 use Rattle.filewriter.proofs.Corollaries.{few-bytes}
 use Rattle.desklink.specs.Links.{writtenCode}
-use Rattle.desklink.proofs.WrittenCode.{count-code, question-code, question-fits}
+use Rattle.desklink.proofs.WrittenCode.{count-code, no-three, question-code, question-fits}
 use Rattle.desklink.proofs.guarddesk_write.Statement.{statement}
 use Rattle.desklink.proofs.guarddesk_write.Tie as tie
 
@@ -19,7 +19,7 @@ sub-result c = let w = c .before .before .before .before .before in question-fit
 returns : tie.Need-returns
 returns c =
     let w = c .before .before .before .before .before in
-    (question-code (w .write .result) (omega arith) (c .before .if1 .taken) ∙ ap writtenCode (w .write .ensures .0), w .write .ensures .1)
+    (question-code (w .write .result) (omega arith) (c .before .if1 .taken) ∙ ap writtenCode (w .write .ensures .0), (λ e. no-three (w .write .result) (w .write .ensures .1 .0) (sym (question-code (w .write .result) (omega arith) (c .before .if1 .taken)) ∙ e), w .write .ensures .1 .1))
 
 cast-result-2 : tie.Need-cast-result-2
 cast-result-2 c = record { sfits = omega (arith, few (c .before .before .before .before .before)) }
@@ -27,7 +27,7 @@ cast-result-2 c = record { sfits = omega (arith, few (c .before .before .before 
 returns-2 : tie.Need-returns-2
 returns-2 c =
     let w = c .before .before .before .before .before in
-    (count-code (w .write .result) (few w) (c .before .if1 .left) ∙ ap writtenCode (w .write .ensures .0), w .write .ensures .1)
+    (count-code (w .write .result) (few w) (c .before .if1 .left) ∙ ap writtenCode (w .write .ensures .0), (λ e. no-three (w .write .result) (w .write .ensures .1 .0) (sym (count-code (w .write .result) (few w) (c .before .if1 .left)) ∙ e), w .write .ensures .1 .1))
 
 pub guarddesk-write-spec : {M : Type 1} → statement M
 guarddesk-write-spec =

@@ -31,11 +31,14 @@ returns : tie.Need-returns
 returns c =
     let r = c .before .before in
     let h : ¬ (r .read-list .result .refused ≡ 0) = c .if1 .taken in
-    (refused-answer (listFile base (list-of r)) (r .read-list .result) (length (out-of r)) (r .read-list .ensures) h, cleared-of r .clear .ensures ∙ refused-left (listFile base (list-of r)) (r .read-list .result) (length (out-of r)) (r .read-list .ensures) h)
+    let read = r .read-list .ensures .0 in (
+      refused-answer (listFile base (list-of r)) (r .read-list .result) (length (out-of r)) read h,
+      (r .read-list .ensures .1, cleared-of r .clear .ensures ∙ refused-left (listFile base (list-of r)) (r .read-list .result) (length (out-of r)) read h),
+    )
 
 -- the list is taken
 taken-by : (c : tie.Else1) → Taken (list-of (c .before .before)) (c .before .before .read-list .result)
-taken-by c = taken _ _ (c .before .before .read-list .ensures) (c .if1 .left)
+taken-by c = taken _ _ (c .before .before .read-list .ensures .0) (c .if1 .left)
 
 sub-rows-end : tie.Need-sub-rows-end
 sub-rows-end c = omega (arith, list-length (taken-by (c .before)))
@@ -69,7 +72,7 @@ returns-2 c =
     let r = m .before .before .before .before .before .before in
     let w = p .put-numbers .ensures .puts _ (marked-by m) in
     let f = not-true _ (t .if2 .taken) in
-    (short-answer k (out-of r) (cleared-of r .clear .ensures) w f, short-left k (out-of r) (cleared-of r .clear .ensures) w f (cl .clear2 .ensures))
+    (short-answer k (out-of r) (cleared-of r .clear .ensures) w f, ((λ e. omega arith), short-left k (out-of r) (cleared-of r .clear .ensures) w f (cl .clear2 .ensures)))
 
 returns-3 : tie.Need-returns-3
 returns-3 c =
@@ -79,7 +82,7 @@ returns-3 c =
     let r = m .before .before .before .before .before .before in
     let w = p .put-numbers .ensures .puts _ (marked-by m) in
     let f = not-false _ (c .if2 .left) in
-    (written-answer k (out-of r) (cleared-of r .clear .ensures) w f, written-left k (out-of r) (cleared-of r .clear .ensures) w f)
+    (written-answer k (out-of r) (cleared-of r .clear .ensures) w f, ((λ e. omega arith), written-left k (out-of r) (cleared-of r .clear .ensures) w f))
 
 pub write-spec : {M : Type 1} → statement M
 write-spec =

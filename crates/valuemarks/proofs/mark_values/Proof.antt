@@ -20,7 +20,7 @@ abbrev AllMidway : TypeTable → RowTable → ℕ → ℕ → ℕ → List ℕ �
 AllMidway types rows end at r marks = (g : Guard) → Listed types rows g → end ≡ length (untilLines g) → Midway g at r marks
 
 abbrev Inv-loop : tie.InvT-loop
-Inv-loop types end marks₀ rows at₀ r₀ marks at r = (r ≤ rows .many) × (length marks ≡ 512) × AllMidway types rows end at r marks
+Inv-loop types end marks₀ rows at₀ r₀ marks at r = (r ≤ rows .many) × (length marks ≡ 640) × AllMidway types rows end at r marks
 
 abbrev μ-loop : tie.MeasureT-loop
 μ-loop types end marks₀ rows at₀ r₀ marks at r = r
@@ -54,7 +54,7 @@ loop-holds : tie.Need-loop-holds Inv-loop μ-loop
 loop-holds c =
     let u = c .pre in (
       omega arith,
-      ap length (u .blank) ∙ length-replicate {A = ℕ} 512 0,
+      ap length (u .blank) ∙ length-replicate {A = ℕ} 640 0,
       λ g l e. subst (λ (k : ℕ). Midway g (c .args .end) k (c .args .marks .now)) (sym (l .many)) (begin g (l .short) (c .args .end) (c .args .marks .now) e (u .blank)),
     )
 
@@ -99,7 +99,7 @@ loop-again : tie.Need-loop-again Inv-loop μ-loop
 loop-again c =
     let at = c .before .before .before .before in
     let came = came-by (c .before) in
-    let long : length (c .before .if1 .marks) ≡ 512 = either (λ x. ap length (x .1) ∙ length-set (at .loop .marks) (at .loop .at - 1) 1 ∙ at .loop .inv .1) (λ x. ap length (x .1) ∙ at .loop .inv .1) came in
+    let long : length (c .before .if1 .marks) ≡ 640 = either (λ x. ap length (x .1) ∙ length-set (at .loop .marks) (at .loop .at - 1) 1 ∙ at .loop .inv .1) (λ x. ap length (x .1) ∙ at .loop .inv .1) came in
     (omega (arith, at .loop .inv .0), long, next (omega arith) (at .loop .inv .0) (at .loop .inv .2) (c .row-numbers .result) (c .row-numbers .ensures) (c .before .if1 .marks) came)
 
 returns : tie.Need-returns Inv-loop μ-loop
