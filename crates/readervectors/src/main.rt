@@ -17,9 +17,10 @@ fn mix_byte(sum: u64, entry: u8) -> u64 {
     mix(sum, entry as u64)
 }
 
-// A signed value counts as the guard file writes it.
+// A signed value counts as the guard file writes it, low half first.
 fn mix_value(sum: u64, entry: i64) -> u64 {
-    mix(sum, numbers::fold_signed(entry) as u64)
+    let folded = values::fold(entry);
+    mix(mix(sum, folded), folded / 4294967296)
 }
 
 fn mix_bytes(start: u64, column: &[u8]) -> u64 {
@@ -33,7 +34,7 @@ fn mix_bytes(start: u64, column: &[u8]) -> u64 {
     sum
 }
 
-fn mix_values(start: u64, column: &[i32]) -> u64 {
+fn mix_values(start: u64, column: &[i64]) -> u64 {
     let mut sum = start;
     let mut i: usize = 0;
     while i < column.len() {
