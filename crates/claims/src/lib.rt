@@ -46,7 +46,7 @@ fn is_unlike(
     classes: &[u8; 96],
     sorts: &[u8; 96],
     constants: &[u8; 32],
-    values: &[i32; 24],
+    values: &[i64; 24],
     x: u32,
 ) -> bool
     ensures { λ r. ⌜ Tells (UnlikeTerm (now (sorts .entry)) (now (constants .entry)) (now (values .entry)) (now (classes .entry)) x) r ⌝ }
@@ -88,7 +88,7 @@ pub fn closes(
     sorts: &[u8; 96],
     full: &[u16; 8],
     constants: &[u8; 32],
-    values: &[i32; 24],
+    values: &[i64; 24],
     kinds: &[u8; 64],
     terms: &[u8; 64],
     others: &[u8; 64],

@@ -6,7 +6,7 @@ use Prim.Native.Nat.{ℕ}
 use lib.Dec.{eqb}
 use lib.IntN.{ℤ}
 use lib.ListN.{getD}
-use mir.Syntax.{w32}
+use mir.Syntax.{w64}
 use mir.Val.{SFits, ofZ}
 use borrow.Author.Tests.{eq-eqb, ne-eqb}
 use Rattle.guard.specs.Closure.{Fact.same, State, add, eqZ}
@@ -26,8 +26,8 @@ module _ (constants : List ℕ) (values : List ℤ) (k j : ℕ) where
   unfolding sameConstant
   other-type n o = sym (second-decides _ _ _ (is-nonzero _ n) (sym (no-and _ (ne-eqb _ _ o))))
 
-  pub by-value : ¬ (getD constants k 0 ≡ 0) → getD constants j 0 ≡ getD constants k 0 → (a b : ℤ) → SFits w32 a → SFits w32 b
-      → a ≡ constantValue values j → b ≡ constantValue values k → eqb (ofZ w32 a) (ofZ w32 b) ≡ sameConstant constants values k j
+  pub by-value : ¬ (getD constants k 0 ≡ 0) → getD constants j 0 ≡ getD constants k 0 → (a b : ℤ) → SFits w64 a → SFits w64 b
+      → a ≡ constantValue values j → b ≡ constantValue values k → eqb (ofZ w64 a) (ofZ w64 b) ≡ sameConstant constants values k j
   unfolding sameConstant
   by-value n e a b fa fb ea eb =
       same-bits a b fa fb ∙ ap₂ eqZ ea eb ∙ sym (second-decides _ _ _ (is-nonzero _ n) (second-decides _ _ _ (eq-eqb _ _ e) refl))

@@ -6,7 +6,7 @@ ghost use Rattle.guard.specs.Closure.{add};
 ghost use Rattle.classes.specs.Held.{Held, state};
 ghost use Rattle.constantfacts.specs.Equal.{constantsAt, constantsBy, constantsMeet, sameConstant};
 
-fn same_constant(constants: &[u8; 32], values: &[i32; 24], k: usize, i: usize) -> bool
+fn same_constant(constants: &[u8; 32], values: &[i64; 24], k: usize, i: usize) -> bool
     requires { ⌜ (k < 30) × (i < 30) ⌝ }
     ensures { λ r. ⌜ r ≡ sameConstant (now (constants .entry)) (now (values .entry)) k i ⌝ }
 {
@@ -26,7 +26,7 @@ fn meet_constants(
     classes: &mut [u8; 96],
     labels: &mut [u16; 96],
     constants: &[u8; 32],
-    values: &[i32; 24],
+    values: &[i64; 24],
     k: usize,
     i: usize,
 )
@@ -50,7 +50,7 @@ fn join_constant(
     classes: &mut [u8; 96],
     labels: &mut [u16; 96],
     constants: &[u8; 32],
-    values: &[i32; 24],
+    values: &[i64; 24],
     k: usize,
 )
     requires { ⌜ k < 30 ⌝ }
@@ -69,7 +69,7 @@ pub fn join_constants(
     classes: &mut [u8; 96],
     labels: &mut [u16; 96],
     constants: &[u8; 32],
-    values: &[i32; 24],
+    values: &[i64; 24],
 )
     requires { ⌜ Held (now classes) ⌝ }
     ensures { λ _. ⌜ state (now (classes .exit)) (now (labels .exit)) ≡ foldl add (state (now (classes .entry)) (now (labels .entry))) (constantsBy (now (constants .entry)) (now (values .entry))) ⌝ }

@@ -8,7 +8,7 @@ use lib.Dec.{eqb, ltb}
 use lib.IntN.{ℤ, pos}
 use lib.ListN.{getD}
 use mir.Facts.{toZ-ofZ}
-use mir.Syntax.{w32}
+use mir.Syntax.{w64}
 use mir.Val.{SFits, ofZ, toZ}
 use borrow.Author.Tests.{eq-eqb, le-ltb, lt-ltb, ne-eqb}
 use Rattle.laws.proofs.Bools.{by-test, cond-ind}
@@ -18,10 +18,10 @@ use Rattle.guard.proofs.LeastClosure.{eqZ-of}
 use Rattle.constants.specs.Constants.{constantTerm, constantValue}
 
 -- two values are equal if their bits are
-pub same-bits : (a b : ℤ) → SFits w32 a → SFits w32 b → eqb (ofZ w32 a) (ofZ w32 b) ≡ eqZ a b
+pub same-bits : (a b : ℤ) → SFits w64 a → SFits w64 b → eqb (ofZ w64 a) (ofZ w64 b) ≡ eqZ a b
 same-bits a b fa fb =
-    by-test (eqZ a b) (λ e. eq-eqb _ _ (ap (ofZ w32) (eqZ-true a b e)) ∙ sym e)
-    (λ e. ne-eqb (ofZ w32 a) (ofZ w32 b) (λ q. false≢true (sym e ∙ eqZ-of a b (sym (toZ-ofZ fa) ∙ ap (toZ w32) q ∙ toZ-ofZ fb))) ∙ sym e)
+    by-test (eqZ a b) (λ e. eq-eqb _ _ (ap (ofZ w64) (eqZ-true a b e)) ∙ sym e)
+    (λ e. ne-eqb (ofZ w64 a) (ofZ w64 b) (λ q. false≢true (sym e ∙ eqZ-of a b (sym (toZ-ofZ fa) ∙ ap (toZ w64) q ∙ toZ-ofZ fb))) ∙ sym e)
 
 module _ (k : ℕ) where
   pub row-term : k < 24 → k ≡ constantTerm k

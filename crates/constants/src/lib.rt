@@ -15,7 +15,7 @@ pub fn constant_term(k: usize) -> u8
 }
 
 // Its value, 0 for a default.
-pub fn constant_value(values: &[i32; 24], k: usize) -> i32
+pub fn constant_value(values: &[i64; 24], k: usize) -> i64
     ensures { λ r. ⌜ r ≡ constantValue (now (values .entry)) k ⌝ }
 {
     if k < 24 {

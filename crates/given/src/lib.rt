@@ -31,7 +31,7 @@ pub fn begin(
     sorts: &[u8; 96],
     full: &[u16; 8],
     constants: &[u8; 32],
-    values: &[i32; 24],
+    values: &[i64; 24],
     kinds: &[u8; 64],
     terms: &[u8; 64],
     others: &[u8; 64],

@@ -9,7 +9,7 @@ pub struct Leaf {
     pub sorts: [u8; 96],
     pub fieldless: [u16; 8],
     pub constants: [u8; 32],
-    pub values: [i32; 24],
+    pub values: [i64; 24],
     pub marks: [u8; 96],
     pub ranks: [u8; 96],
 }

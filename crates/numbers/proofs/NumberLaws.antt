@@ -12,9 +12,9 @@ use lib.ListN.{length, drop, take, length-drop}
 use lib.Seq.{drop-drop}
 use borrow.Author.Tests.{eqb-false, eqb-true, le-ltb, lt-ltb, ltb-true}
 use Rattle.laws.proofs.Bools.{by-test}
-use Rattle.guard.specs.Number.{Parsed, Parsed.accepted, Parsed.refused, Parser, _>>_, andThen, ask, return, unsigned, valueOfGroups, wellFormed, width32}
+use Rattle.guard.specs.Number.{Parsed, Parsed.accepted, Parsed.refused, Parser, Width, _>>_, andThen, ask, return, unsigned, unsignedOf, valueOfGroups, wellFormed, width32}
 use Rattle.guard.specs.File.{count, kind, name}
-use Rattle.guard.proofs.Reading.{Reads, reads-unsigned}
+use Rattle.guard.proofs.Reading.{Reads, reads-unsigned-of}
 use Rattle.leb128.specs.Count.{Counted}
 use Rattle.leb128.proofs.Count.{counts, unsigned-counted, unsigned-short}
 use Rattle.numbers.specs.declared.Number.{Number}
@@ -32,51 +32,55 @@ record Suffix (bs rest : List ℕ) : Type 0 where
   there : used ≤ length bs
   is : rest ≡ drop used bs
 
-suffix : (bs : List ℕ) (v : ℕ) (rest : List ℕ) → unsigned bs ≡ accepted v rest → Suffix bs rest
-suffix bs v rest e = let (n, c) = counts 5 bs (omega arith) in by-test (eqb n 0) (λ z. none n c (eqb-true n 0 z)) (λ z. some n c (eqb-false n 0 z))
-  where
-    none : (n : ℕ) → Counted 5 bs n → n ≡ 0 → Suffix bs rest
-    none n c z = other (sym (unsigned-short width32 bs n c z) ∙ e)
+module _ (w : Width) (any : 0 < w .bytes) where
+  suffix : (bs : List ℕ) (v : ℕ) (rest : List ℕ) → unsignedOf w bs ≡ accepted v rest → Suffix bs rest
+  suffix bs v rest e = let (n, c) = counts (w .bytes) bs any in by-test (eqb n 0) (λ z. none n c (eqb-true n 0 z)) (λ z. some n c (eqb-false n 0 z))
+    where
+      none : (n : ℕ) → Counted (w .bytes) bs n → n ≡ 0 → Suffix bs rest
+      none n c z = other (sym (unsigned-short w bs n c z) ∙ e)
 
-    left : (gs mid : List ℕ) (t : Bool) → (ask 3 t >> return (valueOfGroups gs)) mid ≡ accepted v rest → rest ≡ mid
-    left gs mid true h = cc
-    left gs mid false h = other h
+      left : (gs mid : List ℕ) (t : Bool) → (ask 3 t >> return (valueOfGroups gs)) mid ≡ accepted v rest → rest ≡ mid
+      left gs mid true h = cc
+      left gs mid false h = other h
 
-    some : (n : ℕ) → Counted 5 bs n → ¬ (n ≡ 0) → Suffix bs rest
-    some n c z =
-        record {
-          used = n;
-          some = omega (arith, z);
-          there = c .within;
-          is = left (take n bs) (drop n bs) (wellFormed width32 (take n bs)) (sym (unsigned-counted width32 bs n c z) ∙ e);
-        }
+      some : (n : ℕ) → Counted (w .bytes) bs n → ¬ (n ≡ 0) → Suffix bs rest
+      some n c z =
+          record {
+            used = n;
+            some = omega (arith, z);
+            there = c .within;
+            is = left (take n bs) (drop n bs) (wellFormed w (take n bs)) (sym (unsigned-counted w bs n c z) ∙ e);
+          }
 
--- a number is refused by a question, never by 0
+  -- a number is refused by a question, never by 0
+  pub question-of : (bs : List ℕ) (q : ℕ) → unsignedOf w bs ≡ refused q → 0 < q
+  question-of bs q e = let (n, c) = counts (w .bytes) bs any in by-test (eqb n 0) (λ z. none n c (eqb-true n 0 z)) (λ z. some n c (eqb-false n 0 z))
+    where
+      none : (n : ℕ) → Counted (w .bytes) bs n → n ≡ 0 → 0 < q
+      none n c z = let two : _≡_ {A = Parsed ℕ} (refused 2) (refused q) = sym (unsigned-short w bs n c z) ∙ e in let is : 2 ≡ q = cc in omega arith
+
+      asked : (gs mid : List ℕ) (t : Bool) → (ask 3 t >> return (valueOfGroups gs)) mid ≡ refused q → 0 < q
+      asked gs mid true h = other (sym h)
+      asked gs mid false h = let is : 3 ≡ q = cc in omega arith
+
+      some : (n : ℕ) → Counted (w .bytes) bs n → ¬ (n ≡ 0) → 0 < q
+      some n c z = asked (take n bs) (drop n bs) (wellFormed w (take n bs)) (sym (unsigned-counted w bs n c z) ∙ e)
+
 pub unsigned-question : (bs : List ℕ) (q : ℕ) → unsigned bs ≡ refused q → 0 < q
-unsigned-question bs q e = let (n, c) = counts 5 bs (omega arith) in by-test (eqb n 0) (λ z. none n c (eqb-true n 0 z)) (λ z. some n c (eqb-false n 0 z))
-  where
-    none : (n : ℕ) → Counted 5 bs n → n ≡ 0 → 0 < q
-    none n c z = let two : _≡_ {A = Parsed ℕ} (refused 2) (refused q) = sym (unsigned-short width32 bs n c z) ∙ e in let is : 2 ≡ q = cc in omega arith
-
-    asked : (gs mid : List ℕ) (t : Bool) → (ask 3 t >> return (valueOfGroups gs)) mid ≡ refused q → 0 < q
-    asked gs mid true h = other (sym h)
-    asked gs mid false h = let is : 3 ≡ q = cc in omega arith
-
-    some : (n : ℕ) → Counted 5 bs n → ¬ (n ≡ 0) → 0 < q
-    some n c z = asked (take n bs) (drop n bs) (wellFormed width32 (take n bs)) (sym (unsigned-counted width32 bs n c z) ∙ e)
+unsigned-question = question-of width32 (omega arith)
 
 -- *Cursor law.* A number at `at` leaves the bytes from the next cursor on, past `at` and in the bytes.
-pub record Passed (bytes : List ℕ) (at next value : ℕ) (rest : List ℕ) : Type 0 where
+pub record Passed (most : ℕ) (bytes : List ℕ) (at next value : ℕ) (rest : List ℕ) : Type 0 where
   pub left : rest ≡ drop next bytes
   pub forward : at < next
   pub within : next ≤ length bytes
-  pub fits : value ≤ 4294967295
+  pub fits : value ≤ most
 
-pub cursor : (bytes : List ℕ) (at v : ℕ) (rest : List ℕ) → unsigned (drop at bytes) ≡ accepted v rest
-    → Passed bytes at (length bytes - length rest) v rest
+pub cursor-of : (w : Width) → 0 < w .bytes → (bytes : List ℕ) (at v : ℕ) (rest : List ℕ) → unsignedOf w (drop at bytes) ≡ accepted v rest
+    → Passed (w .most) bytes at (length bytes - length rest) v rest
 unfolding Reads
-cursor bytes at v rest e =
-    let s = suffix (drop at bytes) v rest e in
+cursor-of w any bytes at v rest e =
+    let s = suffix w any (drop at bytes) v rest e in
     let r : rest ≡ drop (at + s .used) bytes = s .is ∙ drop-drop (s .used) at bytes in
     let l : length rest ≡ length bytes - (at + s .used) = ap length r ∙ length-drop (at + s .used) bytes in
     let d : length (drop at bytes) ≡ length bytes - at = length-drop at bytes in
@@ -87,8 +91,11 @@ cursor bytes at v rest e =
       left = r ∙ ap (λ (k : ℕ). drop k bytes) (sym n);
       forward = omega arith;
       within = omega arith;
-      fits = reads-unsigned (drop at bytes) v rest e .2 .0;
+      fits = reads-unsigned-of w (drop at bytes) v rest e .2 .0;
     }
+
+cursor : (bytes : List ℕ) (at v : ℕ) (rest : List ℕ) → unsigned (drop at bytes) ≡ accepted v rest → Passed 4294967295 bytes at (length bytes - length rest) v rest
+cursor = cursor-of width32 (omega arith)
 
 -- ---- the answers of the code
 

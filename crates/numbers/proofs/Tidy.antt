@@ -14,9 +14,9 @@ use Rattle.laws.specs.All.{All, All.more, All.none}
 use Rattle.laws.proofs.Bools.{by-test}
 use Rattle.laws.proofs.Lists.{length-nil}
 use Rattle.guard.specs.File.{count}
-use Rattle.guard.specs.Number.{Parsed, Parsed.accepted, Parsed.refused, Parser, _>>=_, _>>_, andThen, ask, return, times, unsigned}
+use Rattle.guard.specs.Number.{Parsed, Parsed.accepted, Parsed.refused, Parser, Width, _>>=_, _>>_, andThen, ask, return, times, unsigned, unsignedOf, width32}
 use Rattle.numbers.specs.Reader.{below}
-use Rattle.numbers.proofs.NumberLaws.{cursor, unsigned-question}
+use Rattle.numbers.proofs.NumberLaws.{cursor-of, question-of}
 
 other : {A : Type 0} {B : Type 0} {q : ℕ} {a : A} {rest : List ℕ} → Path (Parsed A) (refused q) (accepted a rest) → B
 other e = let z : _≡_ {A = ℕ} 0 1 = cc in absurd (omega arith)
@@ -91,13 +91,16 @@ module _ {A : Type 0} where
 
 -- ---- numbers
 
-pub tidy-unsigned : Tidy unsigned (λ n. n ≤ 4294967295)
-tidy-unsigned =
+pub tidy-unsigned-of : (w : Width) → 0 < w .bytes → Tidy (unsignedOf w) (λ n. n ≤ w .most)
+tidy-unsigned-of w any =
     record {
-      asks = unsigned-question;
-      leaves = λ bs v rest e. (let c = cursor bs 0 v rest e in (length bs - length rest, c .within, c .left));
-      gives = λ bs v rest e. cursor bs 0 v rest e .fits;
+      asks = question-of w any;
+      leaves = λ bs v rest e. (let c = cursor-of w any bs 0 v rest e in (length bs - length rest, c .within, c .left));
+      gives = λ bs v rest e. cursor-of w any bs 0 v rest e .fits;
     }
+
+pub tidy-unsigned : Tidy unsigned (λ n. n ≤ 4294967295)
+tidy-unsigned = tidy-unsigned-of width32 (omega arith)
 
 pub tidy-below : (limit q : ℕ) → 0 < q → Tidy (below limit q) (λ n. n < limit)
 tidy-below limit q l =

@@ -8,7 +8,7 @@ use native.Mathlib.Omega.{arith}
 use lib.Dec.{eqb, leb, ltb}
 use lib.IntN.{ℤ, pos}
 use lib.ListN.{getD, length}
-use mir.Syntax.{w32}
+use mir.Syntax.{w64}
 use mir.Val.{SFits, ofZ}
 use borrow.Author.Tests.{eq-eqb, le-leb, lt-leb, ltb-false, ltb-true, ne-eqb}
 use Rattle.laws.specs.Bits.{bit}
@@ -123,7 +123,7 @@ module _ (constants : List ℕ) (values : List ℤ) where
     unfolding takenAt
     no-constant-there e = no-and _ (ap not (eq-eqb _ _ e))
 
-    pub constant-there : ¬ (getD constants k 0 ≡ 0) → (v : ℤ) → v ≡ constantValue values k → SFits w32 v → z < 65536 → eqb (ofZ w32 v) z ≡ takenAt constants values z k
+    pub constant-there : ¬ (getD constants k 0 ≡ 0) → (v : ℤ) → v ≡ constantValue values k → SFits w64 v → z < 65536 → eqb (ofZ w64 v) z ≡ takenAt constants values z k
     unfolding takenAt
     constant-there n v e f h = same-bits v (pos z) f (record { sfits = omega arith }) ∙ ap (λ (w : ℤ). eqZ w (pos z)) e ∙ yes-and _ (ap not (ne-eqb _ _ n))
 

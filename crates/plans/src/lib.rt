@@ -120,17 +120,17 @@ pub fn variant_for(table: TypeTable, label: u16, t: u8) -> u8
 
 // ---- fresh numbers
 
-fn is_taken_at(constants: &[u8; 32], values: &[i32; 24], z: u32, k: usize) -> bool
+fn is_taken_at(constants: &[u8; 32], values: &[i64; 24], z: u32, k: usize) -> bool
     requires { ⌜ (k < 30) × (z < 65536) ⌝ }
     ensures { λ r. ⌜ r ≡ takenAt (now (constants .entry)) (now (values .entry)) z k ⌝ }
 {
     if constants[k] == 0 {
         return false;
     }
-    constants::constant_value(values, k) == z as i32
+    constants::constant_value(values, k) == z as i64
 }
 
-fn is_taken(constants: &[u8; 32], values: &[i32; 24], z: u32) -> bool
+fn is_taken(constants: &[u8; 32], values: &[i64; 24], z: u32) -> bool
     requires { ⌜ z < 65536 ⌝ }
     ensures { λ r. ⌜ r ≡ taken (now (constants .entry)) (now (values .entry)) z ⌝ }
 {
@@ -145,7 +145,7 @@ fn is_taken(constants: &[u8; 32], values: &[i32; 24], z: u32) -> bool
 }
 
 // The lowest number above `last` that no constant has.
-pub fn next_fresh(constants: &[u8; 32], values: &[i32; 24], last: u32) -> u32
+pub fn next_fresh(constants: &[u8; 32], values: &[i64; 24], last: u32) -> u32
     requires { ⌜ last ≤ 4096 ⌝ }
     ensures { λ r. ⌜ r ≡ nextFresh (now (constants .entry)) (now (values .entry)) last ⌝ }
 {

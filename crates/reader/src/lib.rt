@@ -50,7 +50,7 @@ fn no_tables(question: u32) -> Tables
             types: none24,
             variants: none24,
             parts: [0u8; 72],
-            values: [0i32; 24],
+            values: [0i64; 24],
         },
         literals: LiteralTable {
             many: 0,

@@ -18,7 +18,7 @@ fn mix_byte(sum: u64, entry: u8) -> u64 {
 }
 
 // A signed value counts as the guard file writes it.
-fn mix_value(sum: u64, entry: i32) -> u64 {
+fn mix_value(sum: u64, entry: i64) -> u64 {
     mix(sum, numbers::fold_signed(entry) as u64)
 }
 

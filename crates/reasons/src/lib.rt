@@ -109,7 +109,7 @@ fn constant_class(classes: &[u8; 96], k: usize) -> usize
 fn is_unlike(
     classes: &[u8; 96],
     constants: &[u8; 32],
-    values: &[i32; 24],
+    values: &[i64; 24],
     k: usize,
     j: usize,
 ) -> bool
@@ -126,7 +126,7 @@ fn is_unlike(
 }
 
 // Whether slot k has a constant, and an unlike one before it.
-fn is_unlike_before(classes: &[u8; 96], constants: &[u8; 32], values: &[i32; 24], k: usize) -> bool
+fn is_unlike_before(classes: &[u8; 96], constants: &[u8; 32], values: &[i64; 24], k: usize) -> bool
     requires { ⌜ k < 30 ⌝ }
     ensures { λ r. ⌜ r ≡ unlikeBefore (now (constants .entry)) (now (values .entry)) (now (classes .entry)) k ⌝ }
 {
@@ -144,7 +144,7 @@ fn is_unlike_before(classes: &[u8; 96], constants: &[u8; 32], values: &[i32; 24]
 }
 
 // The lowest class that holds two constants of different value; 96 if there is none.
-pub fn unlike_constants(classes: &[u8; 96], constants: &[u8; 32], values: &[i32; 24]) -> usize
+pub fn unlike_constants(classes: &[u8; 96], constants: &[u8; 32], values: &[i64; 24]) -> usize
     requires { ⌜ Held (now classes) ⌝ }
     ensures { λ r. ⌜ r ≡ lowest (unlikeAt (now (constants .entry)) (now (values .entry)) (now (classes .entry)) 30) 96 ⌝ }
 {

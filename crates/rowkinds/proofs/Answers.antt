@@ -10,16 +10,19 @@ use lib.Seq.{getD-take, length-take-le}
 use borrow.Author.Tests.{eq-eqb, ne-eqb}
 use Rattle.guard.specs.File.{name}
 use Rattle.guard.specs.Guard.{Row, Row.constant, Row.variable}
-use Rattle.guard.specs.Number.{Parsed.refused, Parser, _>>=_, _>>_, ask, return, unfoldSigned, unsigned}
+use Rattle.guard.specs.Number.{Parsed.refused, Parser, _>>=_, _>>_, ask, return, unfoldSigned, unsignedOf, valueWidth}
 use Rattle.guard.specs.Types.{Types, isNumber, variantsOf}
 use Rattle.rowparts.specs.ByTypes.{builtOf, builtRow, constantRow, fieldOf, fieldRow, variableRow, variantTermBy}
 use Rattle.tables.specs.Layout.{typesOf}
-use Rattle.numbers.specs.Reader.{Says, asNumber, belowAt, found, numberAt, refusal}
+use Rattle.numbers.specs.Reader.{Says, asNumber, belowAt, found, refusal}
 use Rattle.rowparts.specs.RowParts.{Before, noRowRead, rowWith}
 use Rattle.rowkinds.specs.RowKinds.{rowReadAt, variantTermAt}
 use Rattle.numbers.proofs.NumberLaws.{below-found, below-refusal}
-use Rattle.numbers.proofs.Answers.{ask-no, ask-yes, goes-on, name-next, name-stop, number-says, stops, tidy-good, tidy-says}
+use Rattle.numbers.proofs.Answers.{ask-no, ask-yes, goes-on, name-next, name-stop, stops, tidy-good, tidy-says}
 use Rattle.numbers.proofs.Tidy.{cursor-drop}
+use Rattle.values.specs.Values.{valueAt}
+use Rattle.values.specs.declared.Value.{Value}
+use Rattle.values.proofs.Answers.{value-next, value-stop, value-within}
 use Rattle.rowkinds.proofs.TidyRow.{tidy-term}
 use Rattle.tables.proofs.Held.{held-many}
 use Rattle.numbers.specs.declared.Number.{Number}
@@ -52,7 +55,7 @@ module _ (table : TypeTable) (bytes : List ℕ) (at : ℕ) (t : Number) (is : t 
       (name-next (λ t. return (variable t)) bytes at (table .many) t is (length (typesOf table)) (held-many table) h)
 
   abbrev constantAfter : ℕ → Parser Row
-  constantAfter t = ask 7 (isNumber (typesOf table) t) >> (unsigned >>= λ n. return (constant t (unfoldSigned n)))
+  constantAfter t = ask 7 (isNumber (typesOf table) t) >> (unsignedOf valueWidth >>= λ n. return (constant t (unfoldSigned n)))
 
   abbrev builtAfter : List ℕ → ℕ → Parser Row
   builtAfter us t = ask 7 (not (isNumber (typesOf table) t)) >> builtOf (typesOf table) us t
@@ -71,22 +74,21 @@ module _ (table : TypeTable) (bytes : List ℕ) (at : ℕ) (t : Number) (is : t 
     constant-variant h =
         row-refused (typesOf table) bytes at _ 7
         (type-next constantAfter
-        ∙ ask-no (unsigned >>= λ n. return (constant (t .value) (unfoldSigned n))) (drop (t .at) bytes) 7 _ (is-variant (typesOf table) (t .value) n counted h))
+        ∙ ask-no (unsignedOf valueWidth >>= λ n. return (constant (t .value) (unfoldSigned n))) (drop (t .at) bytes) 7 _ (is-variant (typesOf table) (t .value) n counted h))
 
-    module _ (none : n ≡ 0) (v : Number) (valued : v ≡ numberAt bytes (t .at)) where
-      to-value : constantRow (typesOf table) (drop at bytes) ≡ (unsigned >>= λ n. return (constant (t .value) (unfoldSigned n))) (drop (t .at) bytes)
+    module _ (none : n ≡ 0) (v : Value) (valued : v ≡ valueAt bytes (t .at)) where
+      to-value : constantRow (typesOf table) (drop at bytes) ≡ (unsignedOf valueWidth >>= λ n. return (constant (t .value) (unfoldSigned n))) (drop (t .at) bytes)
       to-value =
           type-next constantAfter
-          ∙ ask-yes (unsigned >>= λ n. return (constant (t .value) (unfoldSigned n))) (drop (t .at) bytes) 7 _ (is-number (typesOf table) (t .value) n counted none)
+          ∙ ask-yes (unsignedOf valueWidth >>= λ n. return (constant (t .value) (unfoldSigned n))) (drop (t .at) bytes) 7 _ (is-number (typesOf table) (t .value) n counted none)
 
       pub constant-short : ¬ (v .refused ≡ 0) → noRowRead (v .refused) ≡ rowWith (typesOf table) bytes at (constantRow (typesOf table))
-      constant-short h =
-          row-refused (typesOf table) bytes at _ (v .refused) (to-value ∙ stops (λ n. return (constant (t .value) (unfoldSigned n))) bytes _ (v .refused) (v .at) (v .value) (number-says bytes (t .at) v valued) h)
+      constant-short h = row-refused (typesOf table) bytes at _ (v .refused) (to-value ∙ value-stop bytes (t .at) v valued (λ z. return (constant (t .value) z)) h)
 
-      pub constant-found : v .refused ≡ 0 → foundRow (typesOf table) (constant (t .value) (unfoldSigned (v .value))) (v .at) ≡ rowWith (typesOf table) bytes at (constantRow (typesOf table))
+      pub constant-found : v .refused ≡ 0 → foundRow (typesOf table) (constant (t .value) (v .value)) (v .at) ≡ rowWith (typesOf table) bytes at (constantRow (typesOf table))
       constant-found h =
-          row-accepted (typesOf table) bytes at _ (constant (t .value) (unfoldSigned (v .value))) (v .at) (number-says bytes (t .at) v valued .within h)
-          (to-value ∙ goes-on (λ n. return (constant (t .value) (unfoldSigned n))) bytes _ (v .refused) (v .at) (v .value) (number-says bytes (t .at) v valued) h)
+          row-accepted (typesOf table) bytes at _ (constant (t .value) (v .value)) (v .at) (value-within bytes (t .at) v valued h)
+          (to-value ∙ value-next bytes (t .at) v valued (λ z. return (constant (t .value) z)) h)
 
     pub built-number : (us : List ℕ) → n ≡ 0 → noRowRead 7 ≡ rowWith (typesOf table) bytes at (builtRow (typesOf table) us)
     built-number us h =

@@ -7,9 +7,9 @@ use native.Mathlib.Omega.{arith}
 use lib.ListN.{length, getD}
 use Rattle.guard.specs.File.{name}
 use Rattle.guard.specs.Guard.{Row, Row.built, Row.constant, Row.field, Row.variable}
-use Rattle.guard.specs.Number.{unfoldSigned, unsigned}
+use Rattle.guard.specs.Number.{unfoldSigned, unsignedOf, valueWidth}
 use Rattle.guard.specs.Types.{Types, fieldsOf, isNumber, variantsOf}
-use Rattle.numbers.proofs.Tidy.{Tidy, tidy-asked, tidy-below, tidy-bind, tidy-return, tidy-unsigned}
+use Rattle.numbers.proofs.Tidy.{Tidy, tidy-asked, tidy-below, tidy-bind, tidy-return, tidy-unsigned-of}
 use Rattle.tables.specs.Layout.{rowKind}
 use Rattle.rowparts.specs.ByTypes.{partsBy, rowBy, variantTermBy}
 use Rattle.rowparts.proofs.TidyParts.{tidy-parts}
@@ -33,7 +33,7 @@ tidy-row ts us zero =
 tidy-row ts us (suc zero) =
     tidy-bind (name (length ts)) _ (λ t. t < length ts) (λ r. RowShape ts r × (1 < 4 → rowKind r ≡ 1)) (tidy-below (length ts) 5 (omega arith))
     (λ t h. tidy-asked 7 (isNumber ts t) _ (λ r. RowShape ts r × (1 < 4 → rowKind r ≡ 1)) (omega arith) (λ e.
-    tidy-bind unsigned _ (λ n. n ≤ 4294967295) (λ r. RowShape ts r × (1 < 4 → rowKind r ≡ 1)) tidy-unsigned
+    tidy-bind (unsignedOf valueWidth) _ (λ n. n ≤ valueWidth .most) (λ r. RowShape ts r × (1 < 4 → rowKind r ≡ 1)) (tidy-unsigned-of valueWidth (omega arith))
     (λ n u. tidy-return (constant t (unfoldSigned n)) (λ r. RowShape ts r × (1 < 4 → rowKind r ≡ 1)) (h, λ l. refl))))
 tidy-row ts us (suc (suc zero)) =
     tidy-bind (name (length ts)) _ (λ t. t < length ts) (λ r. RowShape ts r × (2 < 4 → rowKind r ≡ 2)) (tidy-below (length ts) 5 (omega arith))

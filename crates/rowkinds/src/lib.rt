@@ -43,7 +43,7 @@ fn read_constant(bytes: &[u8], at: usize, table: TypeTable) -> RowRead
     if variants != 0 {
         return rowparts::refuse_row(7);
     }
-    let n = numbers::read_number(bytes, t.at);
+    let n = values::read_value(bytes, t.at);
     if n.refused != 0 {
         return rowparts::refuse_row(n.refused);
     }
@@ -54,7 +54,7 @@ fn read_constant(bytes: &[u8], at: usize, table: TypeTable) -> RowRead
         sort: t.value as u8,
         variant: 0,
         parts: none,
-        value: numbers::unfold_signed(n.value),
+        value: n.value,
     }
 }
 

@@ -8,7 +8,7 @@ use lib.Dec.{eqb}
 use lib.ListN.{length, getD}
 use Rattle.guard.specs.File.{name}
 use Rattle.guard.specs.Guard.{Row, Row.built, Row.constant, Row.field, Row.variable}
-use Rattle.guard.specs.Number.{Parser, _>>=_, _>>_, ask, return, unfoldSigned, unsigned}
+use Rattle.guard.specs.Number.{Parser, _>>=_, _>>_, ask, return, unfoldSigned, unsignedOf, valueWidth}
 use Rattle.guard.specs.Types.{Types, Variant, fieldsOf, isNumber, variantsOf}
 
 -- parts of the types given; `us` are the types of the rows before
@@ -33,7 +33,7 @@ abbrev pub constantRow : Types → Parser Row
 constantRow ts = do
   t ← name (length ts)
   ask 7 (isNumber ts t)
-  n ← unsigned
+  n ← unsignedOf valueWidth
   return (constant t (unfoldSigned n))
 
 -- a built row of the type t, from its variant on

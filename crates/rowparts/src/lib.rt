@@ -24,7 +24,7 @@ pub struct RowRead {
     pub sort: u8,
     pub variant: u8,
     pub parts: [u8; 3],
-    pub value: i32,
+    pub value: i64,
 }
 
 fn refuse_parts(question: u32) -> PartsRead

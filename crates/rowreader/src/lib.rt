@@ -40,7 +40,7 @@ fn refuse_rows(question: u32) -> RowsRead
 {
     let zeros = [0u8; 24];
     let parts = [0u8; 72];
-    let values = [0i32; 24];
+    let values = [0i64; 24];
     RowsRead {
         refused: question,
         at: 0,

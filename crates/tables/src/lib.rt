@@ -23,7 +23,7 @@ pub struct RowTable {
     // three places to a row: the parts of a built row; the term and the position of a field read
     pub parts: [u8; 72],
     // the value of a constant
-    pub values: [i32; 24],
+    pub values: [i64; 24],
 }
 
 // The literals.

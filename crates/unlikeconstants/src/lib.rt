@@ -33,7 +33,7 @@ fn first_constant(classes: &[u8; 96], constants: &[u8; 32], class: u8) -> usize
 fn is_other_constant(
     classes: &[u8; 96],
     constants: &[u8; 32],
-    values: &[i32; 24],
+    values: &[i64; 24],
     class: u8,
     first: usize,
     k: usize,
@@ -48,7 +48,7 @@ fn is_other_constant(
 }
 
 // Whether a class holds two constants of different value: one differs from the first.
-pub fn holds_unlike(classes: &[u8; 96], constants: &[u8; 32], values: &[i32; 24], class: u8) -> bool
+pub fn holds_unlike(classes: &[u8; 96], constants: &[u8; 32], values: &[i64; 24], class: u8) -> bool
     ensures { λ r. ⌜ r ≡ unlikeIn (now (constants .entry)) (now (values .entry)) (now (classes .entry)) class ⌝ }
 {
     let first = first_constant(classes, constants, class);

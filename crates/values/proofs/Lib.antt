@@ -1,3 +1,4 @@
+pub mod Answers
 pub mod Formed
 pub mod Found
 pub mod Halves

@@ -3,7 +3,7 @@ use mathlib.Core.Path.{ap, _∙_}
 use mathlib.Core.List.{[], _∷_}
 use native.Mathlib.Omega.{arith}
 use lib.IntN.{ℤ}
-use mir.Syntax.{w32}
+use mir.Syntax.{w64}
 use mir.Val.{SFits}
 use mir.Facts.{toZ-ofZ}
 use Rattle.rowkinds.proofs.Answers.{type-small, constant-stop, constant-variant, constant-short, constant-found}
@@ -46,8 +46,8 @@ returns-2 c =
     c .refuse-row2 .ensures
     ∙ constant-variant (a .table) (a .bytes .now) (a .at) (t .result) (t .ensures) (c .before .before .before .before .if1 .left) (n .result) (n .ensures) (c .before .if2 .taken)
 
-read-number-requires : tie.Need-read-number-requires
-read-number-requires c κs = search needs
+read-value-requires : tie.Need-read-value-requires
+read-value-requires c κs = search needs
 
 refuse-row-requires-3 : tie.Need-refuse-row-requires-3
 refuse-row-requires-3 c κs = search needs
@@ -57,7 +57,7 @@ returns-3 c =
     let a = c .before .before .before .before .before .before .before .before .before .before .before .before .args in
     let t = c .before .before .before .before .before .before .before .before .before .read-below in
     let n = c .before .before .before .before .before .variants-of in
-    let v = c .before .before .before .read-number in
+    let v = c .before .before .before .read-value in
     c .refuse-row3 .ensures
     ∙ constant-short (a .table) (a .bytes .now) (a .at) (t .result) (t .ensures) (c .before .before .before .before .before .before .before .if1 .left) (n .result) (n .ensures) (c .before .before .before .before .if2 .left) (v .result) (v .ensures) (c .before .if3 .taken)
 
@@ -67,18 +67,14 @@ cast-t11 c =
     let t = c .before .before .before .before .before .before .before .before .before .read-below in
     omega (arith, type-small (a .table) (a .bytes .now) (a .at) (t .result) (t .ensures) (c .before .before .before .before .before .before .before .if1 .left), c .before .before .before .before .before .before .before .before .before .before .before .before .pre .many)
 
-unfold-signed-requires : tie.Need-unfold-signed-requires
-unfold-signed-requires c κs = search needs
-
 returns-4 : tie.Need-returns-4
 returns-4 c =
     let a = c .before .before .before .before .before .before .before .before .before .before .before .before .before .args in
     let t = c .before .before .before .before .before .before .before .before .before .before .read-below in
     let n = c .before .before .before .before .before .before .variants-of in
-    let v = c .before .before .before .before .read-number in
-    let z = c .unfold-signed in
-    let f : SFits w32 (z .result) = record { sfits = z .ok } in
-    ap (λ (x : ℤ). record { refused = 0; at = v .result .at; sort = t .result .value; variant = 0; parts = 0 ∷ 0 ∷ 0 ∷ []; value = x }) (toZ-ofZ f ∙ z .ensures)
+    let v = c .before .before .before .before .read-value in
+    let f : SFits w64 (v .result .value) = record { sfits = c .struct-told .given .1 .0 .1 } in
+    ap (λ (x : ℤ). record { refused = 0; at = v .result .at; sort = t .result .value; variant = 0; parts = 0 ∷ 0 ∷ 0 ∷ []; value = x }) (toZ-ofZ f)
     ∙ constant-found (a .table) (a .bytes .now) (a .at) (t .result) (t .ensures) (c .before .before .before .before .before .before .before .before .if1 .left) (n .result) (n .ensures) (c .before .before .before .before .before .if2 .left) (v .result) (v .ensures) (c .before .before .if3 .left)
 
 pub read-constant-spec : {M : Type 1} → statement M
@@ -93,9 +89,8 @@ read-constant-spec =
     variants-of-requires
     refuse-row-requires-2
     returns-2
-    read-number-requires
+    read-value-requires
     refuse-row-requires-3
     returns-3
     cast-t11
-    unfold-signed-requires
     returns-4)

@@ -3,7 +3,7 @@ use mathlib.Core.Path.{ap}
 use Prim.Native.Nat.{_+_, _*_}
 use lib.IntN.{ℤ}
 use lib.ListN.{getD, set}
-use mir.Syntax.{w32}
+use mir.Syntax.{w64}
 use mir.Val.{SFits}
 use mir.Facts.{toZ-ofZ}
 use Rattle.rowreader.specs.RowReader.{stored}
@@ -69,7 +69,7 @@ returns c =
     let rows = a .rows in
     let i = rows .many in
     -- the value of the row fits, so it is stored as it is
-    let fits : SFits w32 (a .t3 .value) = record { sfits = c .struct-told .given .1 .1 .1 .1 .1 .0 .1 } in
+    let fits : SFits w64 (a .t3 .value) = record { sfits = c .struct-told .given .1 .1 .1 .1 .1 .0 .1 } in
     ap (λ (z : ℤ). record {
       many = i + 1;
       kinds = set (rows .kinds) i (a .kind);
