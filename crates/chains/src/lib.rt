@@ -63,7 +63,7 @@ pub fn ended_row(
     t: u8,
     v: u8,
     s: u8,
-    z: i32,
+    z: i64,
 ) -> Drawn
     requires { ⌜ FormsFit forms ⌝ }
     requires { ⌜ Store (typesIn forms) (now rows) many (now drawn) ⌝ }

@@ -17,9 +17,10 @@ use Rattle.laws.proofs.Lists.{by-positions, map-length}
 use Rattle.guard.specs.Message.{Message, Message.made, Message.number, noMessage, toParts}
 use Rattle.guard.specs.Shown.{decode, decodeRow, isBelow, messageType, natural, partCount, rowNumbers}
 use Rattle.guard.specs.Types.{Types, fieldsOf, variantsOf}
+use Rattle.guard.specs.Words.{highOf, lowOf}
 use Rattle.rowstore.specs.Store.{Added, Grown, PartRows, Stored, madeRow, manyAfter, numberRow, rowFound, withRow}
 use Rattle.rowstore.proofs.Numbers.{many-found, many-new}
-use Rattle.rowstore.proofs.RowLaws.{made-fits, made-shown, number-fits, start-after-part, tag-fields}
+use Rattle.rowstore.proofs.RowLaws.{made-fits, made-shown, number-fits, number-shown, start-after-part, tag-fields}
 use Rattle.rowstore.proofs.StoreLaws.{grown-message, grown-twice, row-stored, tagFields}
 use Rattle.drawnrows.specs.Drawing.{Drew, LowRows, NumberDrawn, Parted, Store, Under, Under.here, Under.part, partsOver}
 use Rattle.drawnrows.proofs.DrawnLaws.{under-kept, under-trans}
@@ -58,7 +59,7 @@ pub number-drew : (rows : List ℤ) (many t : ℕ) (z : ℤ) (r : ℕ) (rows′ 
 number-drew rows many t z r rows′ many′ few long found with-it now ts drawn h e s =
     subst (λ (k : ℕ). Drew ts rows many drawn 1 (number t z) rows′ k drawn r) (sym now)
     (drew-added ts rows many drawn s (numberRow t z) r rows′
-    (row-stored ts rows many (s .stored) (numberRow t z) refl (omega arith) (number-fits ts (decode ts rows many) many t z h e) 0 (λ i l. absurd (omega arith)) r rows′ found with-it) (number t z) refl)
+    (row-stored ts rows many (s .stored) (numberRow t z) refl (omega arith) (number-fits ts (decode ts rows many) many t z h e) 0 (λ i l. absurd (omega arith)) r rows′ found with-it) (number t z) (number-shown ts (decode ts rows many) many t z))
 
 -- ---- variants
 
@@ -161,10 +162,12 @@ less-type (suc t) = ap negsuc (omega arith)
 pub number-tag : (t : ℕ) → t < 256 → negsuc 0 -ℤ toZ w32 t ≡ negsuc t
 number-tag t h = ap (λ (z : ℤ). negsuc 0 -ℤ z) (toZ-pos w32 {n = t} (omega arith)) ∙ less-type t
 
-pub number-numbers : (t : ℕ) (z : ℤ) → t < 256 → SFits w32 z → (toZ w32 (ofZ w32 (negsuc 0 -ℤ toZ w32 t)) ∷ toZ w32 (ofZ w32 z) ∷ pos 0 ∷ pos 0 ∷ []) ≡ numberRow t z
-number-numbers t z h f =
+pub number-numbers : (t : ℕ) (z low high : ℤ) → t < 256 → SFits w32 low → SFits w32 high → low ≡ lowOf z → high ≡ highOf z
+    → (toZ w32 (ofZ w32 (negsuc 0 -ℤ toZ w32 t)) ∷ toZ w32 (ofZ w32 low) ∷ toZ w32 (ofZ w32 high) ∷ pos 0 ∷ []) ≡ numberRow t z
+number-numbers t z low high h f g l e =
     let tag : SFits w32 (negsuc t) = record { sfits = omega arith } in
-    ap₂ (λ (a b : ℤ). a ∷ b ∷ pos 0 ∷ pos 0 ∷ []) (ap (λ (y : ℤ). toZ w32 (ofZ w32 y)) (number-tag t h) ∙ toZ-ofZ tag) (toZ-ofZ f)
+    ap₂ (λ (a : ℤ) (xs : List ℤ). a ∷ xs) (ap (λ (y : ℤ). toZ w32 (ofZ w32 y)) (number-tag t h) ∙ toZ-ofZ tag)
+    (ap₂ (λ (a b : ℤ). a ∷ b ∷ pos 0 ∷ []) (toZ-ofZ f ∙ l) (toZ-ofZ g ∙ e))
 
 -- the row found and the buffer with it, by the numbers that the code hands on
 pub handed : (rows : List ℤ) (start many : ℕ) (numbers numbers′ : List ℤ) (x : ℕ) (rows′ : List ℤ) (r many′ : ℕ) → numbers ≡ numbers′ → x ≡ rowFound rows start many numbers → rows′ ≡ withRow rows many x numbers → r ≡ x

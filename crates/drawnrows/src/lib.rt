@@ -1,6 +1,7 @@
 // One row drawn into the lent row buffer: of a number, or of a variant over the rows of its parts. `specs/Drawing.antt` says what a drawing
 // gives.
 use rowstore::row_of;
+use words::words_of;
 ghost use mathlib.Core.Path.{_≡_};
 ghost use mathlib.Core.List.{map};
 ghost use Prim.Native.Nat.{_*_, _≤_, _<_};
@@ -31,13 +32,14 @@ fn drawn_at(many: usize, r: usize) -> Drawn
 }
 
 // Number `z` of type `t`.
-pub fn number_row(rows: &mut [i32], many: usize, t: u8, z: i32) -> Drawn
+pub fn number_row(rows: &mut [i32], many: usize, t: u8, z: i64) -> Drawn
     requires { ⌜ many < 4096 ⌝ }
     requires { ⌜ 16384 ≤ length (now rows) ⌝ }
     ensures { λ d. ⌜ NumberDrawn (now (rows .entry)) many t z (now (rows .exit)) (d .many) (d .row) ⌝ }
 {
     let tag = -1 - t as i32;
-    let r = row_of(rows, 0, many, tag, z, 0, 0);
+    let w = words_of(z);
+    let r = row_of(rows, 0, many, tag, w.low, w.high, 0);
     drawn_at(many, r)
 }
 

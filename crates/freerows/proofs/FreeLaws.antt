@@ -10,7 +10,7 @@ use lib.Dec.{eqb, ltb}
 use lib.IntN.{ℤ, pos}
 use lib.ListN.{length, getD, length-set}
 use lib.Seq.{getD-set-same}
-use mir.Syntax.{w32}
+use mir.Syntax.{w64}
 use mir.Val.{SFits, toZ}
 use mir.Facts.{toZ-pos}
 use borrow.Author.Tests.{eqb-false, eqb-true, eq-eqb, le-ltb, lt-ltb, ne-eqb}
@@ -43,12 +43,12 @@ use Rattle.chains.specs.Chains.{LapNoted, Starts, TopsTyped, lapMessage, topFro
 use Rattle.freerows.specs.Free.{ClassFits, FreeDrawn, FreeNow, Tops, chainTop, freeMessage, lastFresh}
 use Rattle.chains.proofs.ChainLaws.{drew-more, grown-type, start-less, types-few}
 
--- a fresh number is an i32
-pub fresh-fits : (constants : List ℕ) (values : List ℤ) (last n : ℕ) → last ≤ 4096 → n ≡ nextFresh constants values last → SFits w32 (pos n)
+-- a fresh number is an i64
+pub fresh-fits : (constants : List ℕ) (values : List ℤ) (last n : ℕ) → last ≤ 4096 → n ≡ nextFresh constants values last → SFits w64 (pos n)
 fresh-fits constants values last n h e = record { sfits = omega (arith, next-near constants values last) }
 
-pub fresh-number : (constants : List ℕ) (values : List ℤ) (last n : ℕ) → last ≤ 4096 → n ≡ nextFresh constants values last → toZ w32 n ≡ pos n
-fresh-number constants values last n h e = toZ-pos w32 {n = n} (omega (arith, next-near constants values last))
+pub fresh-number : (constants : List ℕ) (values : List ℤ) (last n : ℕ) → last ≤ 4096 → n ≡ nextFresh constants values last → toZ w64 n ≡ pos n
+fresh-number constants values last n h e = toZ-pos w64 {n = n} (omega (arith, next-near constants values last))
 
 module _ (x : OpenState) (c : ℕ) where
   abbrev us : Types

@@ -43,7 +43,7 @@ fn number_planned(leaf: Leaf, rows: &mut [i32], many: usize, last: u32, t: u8) -
     let constants = leaf.constants;
     let values = leaf.values;
     let z = plans::next_fresh(&constants, &values, last);
-    let d = drawnrows::number_row(rows, many, t, z as i32);
+    let d = drawnrows::number_row(rows, many, t, z as i64);
     Planned {
         row: d.row,
         many: d.many,
@@ -75,7 +75,7 @@ fn ended_planned(
     let constants = leaf.constants;
     let values = leaf.values;
     let z = plans::next_fresh(&constants, &values, last);
-    let d = chains::ended_row(forms, rows, drawn, many, t, v, s, z as i32);
+    let d = chains::ended_row(forms, rows, drawn, many, t, v, s, z as i64);
     Planned {
         row: d.row,
         many: d.many,

@@ -17,6 +17,7 @@ use Rattle.guard.specs.Meaning.{Belongs}
 use Rattle.guard.specs.Message.{Message, Message.number, Message.made, noMessage, toParts}
 use Rattle.guard.specs.Shown.{decode, decodeRow, isBelow, isZero, messageType, natural, partMessages, partsFit, rowFits, rowNumbers, tagType, tagVariant}
 use Rattle.guard.specs.Types.{Types, Variant, fieldsOf, isNumber, variantsOf}
+use Rattle.guard.proofs.WordLaws.{low-word, value-of}
 use Rattle.rowstore.specs.Store.{PartRows, Stored, madeRow, numberRow, partNumbers}
 use Rattle.rowstore.proofs.StoreLaws.{below-is, fits-part, hasVariant, part-fits, tagFields}
 
@@ -30,10 +31,10 @@ belongs-type ts (made u v ps) t b = b .0
 
 module _ (ts : Types) (ms : List Message) (n t : ℕ) (z : ℤ) where
   pub number-fits : t < length ts → isNumber ts t ≡ true → rowFits ts ms n (numberRow t z) ≡ true
-  number-fits h e = and-both _ _ (lt-ltb t (length ts) h) (and-both _ _ e refl)
+  number-fits h e = and-both _ _ (lt-ltb t (length ts) h) (and-both _ _ e (and-both _ _ (low-word z) refl))
 
   pub number-shown : decodeRow ts ms (numberRow t z) ≡ number t z
-  number-shown = refl
+  number-shown = ap (number t) (value-of z)
 
 -- ---- variants
 

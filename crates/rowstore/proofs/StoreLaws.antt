@@ -17,7 +17,9 @@ use Rattle.guard.specs.Limits.{rowWidth}
 use Rattle.guard.specs.Message.{Message, Message.made, noMessage, toParts}
 use Rattle.guard.specs.Shown.{decode, decodeRow, isBelow, isZero, messageType, natural, partMessages, partsFit, rowFits, rowNumbers, tagType, tagVariant}
 use Rattle.guard.specs.Types.{Types, Variant, fieldsOf, isNumber, variantsOf}
+use Rattle.guard.specs.Words.{highOf, isWord, lowOf, valueOf}
 use Rattle.guard.proofs.MessageLaws.{parts-eq}
+use Rattle.guard.proofs.WordLaws.{high-of, low-of}
 use Rattle.rowstore.specs.Store.{Added, Grown, Stored, appended, manyAfter, messageAt, rowFound, withRow}
 use Rattle.rowstore.proofs.Numbers.{found-all, found-is, found-none, many-found, many-new, with-found, with-new}
 
@@ -173,11 +175,15 @@ module _ (ms : List Message) (n : ℕ) (apart : (i j : ℕ) → i < n → j < n 
       let tail : partMessages ms fs xs ≡ partMessages ms fs ys = cc in
       ap₂ (λ (z : ℤ) (zs : List ℤ). z ∷ zs) (isX ∙ ap pos (apart (natural x) (natural y) lowX lowY head) ∙ sym isY) (same-parts fs xs ys (omega arith) restX restY tail)
 
-  same-value : (xs ys : List ℤ) → length xs ≡ length ys → getD xs 0 (pos 0) ≡ getD ys 0 (pos 0) → all isZero (drop 1 xs) ≡ true → all isZero (drop 1 ys) ≡ true → xs ≡ ys
-  same-value [] [] l e p q = refl
-  same-value [] (y ∷ ys) l e p q = absurd (omega arith)
-  same-value (x ∷ xs) [] l e p q = absurd (omega arith)
-  same-value (x ∷ xs) (y ∷ ys) l e p q = ap₂ (λ (z : ℤ) (zs : List ℤ). z ∷ zs) e (zeros-same xs ys (omega arith) p q)
+  -- the same two numbers, and zeros behind them
+  same-value : (xs ys : List ℤ) → length xs ≡ length ys → getD xs 0 (pos 0) ≡ getD ys 0 (pos 0) → getD xs 1 (pos 0) ≡ getD ys 1 (pos 0) → all isZero (drop 2 xs) ≡ true → all isZero (drop 2 ys) ≡ true → xs ≡ ys
+  same-value [] [] l low high p q = refl
+  same-value [] (y ∷ ys) l low high p q = absurd (omega arith)
+  same-value (x ∷ xs) [] l low high p q = absurd (omega arith)
+  same-value (x ∷ []) (y ∷ []) l low high p q = ap (λ (z : ℤ). z ∷ []) low
+  same-value (x ∷ []) (y ∷ b ∷ ys) l low high p q = absurd (omega arith)
+  same-value (x ∷ a ∷ xs) (y ∷ []) l low high p q = absurd (omega arith)
+  same-value (x ∷ a ∷ xs) (y ∷ b ∷ ys) l low high p q = ap₂ (λ (z : ℤ) (zs : List ℤ). z ∷ zs) low (ap₂ (λ (z : ℤ) (zs : List ℤ). z ∷ zs) high (zeros-same xs ys (omega arith) p q))
 
   -- over messages that differ, two rows of one message have the same numbers
   pub same-numbers : (ts : Types) (xs ys : List ℤ) → length xs ≡ length ys → rowFits ts ms n xs ≡ true → rowFits ts ms n ys ≡ true → decodeRow ts ms xs ≡ decodeRow ts ms ys → xs ≡ ys
@@ -185,9 +191,16 @@ module _ (ms : List Message) (n : ℕ) (apart : (i j : ℕ) → i < n → j < n 
   same-numbers ts (x ∷ xs) [] l p q e = absurd (false≢true q)
   same-numbers ts (negsuc t ∷ xs) (negsuc u ∷ ys) l p q e =
       let types : t ≡ u = cc in
-      let value : getD xs 0 (pos 0) ≡ getD ys 0 (pos 0) = cc in
+      let value : valueOf (getD xs 0 (pos 0)) (getD xs 1 (pos 0)) ≡ valueOf (getD ys 0 (pos 0)) (getD ys 1 (pos 0)) = cc in
+      let fitsX = and-right (isNumber ts t) _ (and-right (ltb t (length ts)) _ p) in
+      let fitsY = and-right (isNumber ts u) _ (and-right (ltb u (length ts)) _ q) in
+      let wordX : isWord (getD xs 0 (pos 0)) ≡ true = and-left _ _ fitsX in
+      let wordY : isWord (getD ys 0 (pos 0)) ≡ true = and-left _ _ fitsY in
       ap₂ (λ (w : ℕ) (zs : List ℤ). negsuc w ∷ zs) types
-      (same-value xs ys (omega arith) value (and-right (isNumber ts t) _ (and-right (ltb t (length ts)) _ p)) (and-right (isNumber ts u) _ (and-right (ltb u (length ts)) _ q)))
+      (same-value xs ys (omega arith)
+      (sym (low-of (getD xs 0 (pos 0)) (getD xs 1 (pos 0)) wordX) ∙ ap lowOf value ∙ low-of (getD ys 0 (pos 0)) (getD ys 1 (pos 0)) wordY)
+      (sym (high-of (getD xs 0 (pos 0)) (getD xs 1 (pos 0)) wordX) ∙ ap highOf value ∙ high-of (getD ys 0 (pos 0)) (getD ys 1 (pos 0)) wordY)
+      (and-right (isWord (getD xs 0 (pos 0))) _ fitsX) (and-right (isWord (getD ys 0 (pos 0))) _ fitsY))
   same-numbers ts (negsuc t ∷ xs) (pos k ∷ ys) l p q e = let z : _≡_ {A = ℕ} 0 1 = cc in absurd (omega arith)
   same-numbers ts (pos j ∷ xs) (negsuc t ∷ ys) l p q e = let z : _≡_ {A = ℕ} 0 1 = cc in absurd (omega arith)
   same-numbers ts (pos j ∷ xs) (pos k ∷ ys) l p q e =

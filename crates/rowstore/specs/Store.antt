@@ -14,6 +14,7 @@ use Rattle.guard.specs.Limits.{fieldLimit, rowWidth}
 use Rattle.guard.specs.Message.{Message, noMessage}
 use Rattle.guard.specs.Shown.{decode, decodeRow, isBelow, messageType, natural, rowFits, rowNumbers}
 use Rattle.guard.specs.Types.{Types, Variant}
+use Rattle.guard.specs.Words.{highOf, lowOf}
 
 -- ---- what the code finds and writes
 
@@ -71,9 +72,10 @@ pub record Added (ts : Types) (rows : List ℤ) (n : ℕ) (numbers : List ℤ) (
 
 -- ---- rows as callers make them
 
--- "A number of type t has −1 − t, then its value." "Unused numbers of a row are 0."
+-- document 02, #104: "A number's row holds −1 − t, then the low 32 bits as a signed number, then the value divided by
+-- 4,294,967,296 rounded down." Document 01: "Unused numbers of a row are 0."
 abbrev pub numberRow : ℕ → ℤ → List ℤ
-numberRow t z = negsuc t ∷ z ∷ pos 0 ∷ pos 0 ∷ []
+numberRow t z = negsuc t ∷ lowOf z ∷ highOf z ∷ pos 0 ∷ []
 
 -- "A message of type t and variant v has 16 × t + v, then the rows of its parts"
 abbrev pub madeRow : ℕ → ℕ → List ℤ → List ℤ

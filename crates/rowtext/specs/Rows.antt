@@ -6,7 +6,8 @@ use lib.ListN.{getD}
 use Rattle.laws.specs.Lists.{concatMap, from}
 use Rattle.guard.specs.Limits.{rowWidth}
 use Rattle.guard.specs.Shown.{tagType, tagVariant}
-use Rattle.writing.specs.Words.{ascii, named, numberText}
+use Rattle.guard.specs.Words.{valueOf}
+use Rattle.writing.specs.Words.{ascii, named, numberText, signed}
 
 -- so many parts, the first at `at`; "without `parts` where it has none"
 unfoldable pub partsText : List ℤ → ℕ → ℕ → List ℕ
@@ -18,12 +19,16 @@ partsText rows at (suc n) = ascii " parts" ++ concatMap (numberText rows) (from 
 unfoldable pub madeText : (ℕ → ℕ → ℕ) → List ℤ → ℕ → ℕ → List ℕ
 madeText arity rows at tag = named " type " (tagType tag) ++ named " variant " (tagVariant tag) ++ partsText rows at (arity (tagType tag) (tagVariant tag))
 
--- "or as `row 0 type 0 number -3`": a number of type t, its value at `at`
-unfoldable pub valueText : List ℤ → ℕ → ℕ → List ℕ
-valueText rows at t = named " type " t ++ ascii " number" ++ numberText rows at
+-- the value of a number's row, whose two numbers lie from `at` on
+abbrev pub rowValue : List ℤ → ℕ → ℤ
+rowValue rows at = valueOf (getD rows at (pos 0)) (getD rows (at + 1) (pos 0))
 
--- "A message of type t and variant v has 16 × t + v, then the rows of its parts [..]. A number of type t has −1 − t, then its
--- value."
+-- "or as `row 0 type 0 number -3`": a number of type t
+unfoldable pub valueText : List ℤ → ℕ → ℕ → List ℕ
+valueText rows at t = named " type " t ++ ascii " number " ++ signed (rowValue rows at)
+
+-- "A message of type t and variant v has 16 × t + v, then the rows of its parts"; document 02, #104: "A number's row holds
+-- −1 − t, then the low 32 bits as a signed number, then the value divided by 4,294,967,296 rounded down."
 unfoldable pub rowBy : (ℕ → ℕ → ℕ) → List ℤ → ℕ → ℤ → List ℕ
 rowBy arity rows at (pos tag) = madeText arity rows (at + 1) tag
 rowBy arity rows at (negsuc t) = valueText rows (at + 1) t

@@ -5,7 +5,7 @@ ghost use Prim.Native.Nat.{_+_, _*_, _<_, _≤_};
 ghost use lib.ListN.{length};
 ghost use Rattle.laws.specs.Lists.{concatMap, from};
 ghost use Rattle.writing.specs.Written.{Written};
-ghost use Rattle.rowtext.specs.Rows.{madeText, partsText, rowLine, rowText, valueText};
+ghost use Rattle.rowtext.specs.Rows.{madeText, partsText, rowLine, rowText, rowValue, valueText};
 ghost use Rattle.rowtext.specs.Arity.{AritiesFit, arityIn};
 
 // How many parts a message of this type and variant has.
@@ -65,14 +65,26 @@ fn put_message(
     put_parts(out, next, rows, j, arity(types, t, v))
 }
 
-// A number of this type: "A number of type t has −1 − t, then its value", here at `j`.
+// The value of a number's row, whose two numbers lie from `j` on.
+fn row_value(rows: &[i32], j: usize) -> i64
+    requires { ⌜ j < 18446744073709551612 ⌝ }
+    ensures { λ r. ⌜ r ≡ rowValue (now (rows .entry)) j ⌝ }
+{
+    let low = writing::number_at(rows, j);
+    let high = writing::number_at(rows, j + 1);
+    words::value_of(low, high)
+}
+
+// A number of this type: "A number's row holds −1 − t, then the low 32 bits as a signed number, then the value divided by
+// 4,294,967,296 rounded down", here from number `j` on.
 fn put_valued(out: &mut [u8], at: usize, rows: &[i32], j: usize, t: u32) -> usize
+    requires { ⌜ j < 18446744073709551612 ⌝ }
     requires { ⌜ at + 77 ≤ length (now out) ⌝ }
     ensures { λ r. ⌜ Written 77 (now (out .entry)) at (valueText (now (rows .entry)) j t) (now (out .exit)) r ⌝ }
 {
     let typed = writing::put_named(out, at, b" type ", t);
-    let next = writing::put_bytes(out, typed, b" number");
-    writing::put_number_at(out, next, rows, j)
+    let next = writing::put_bytes(out, typed, b" number ");
+    writing::put_value(out, next, row_value(rows, j))
 }
 
 // What row i says, which lies from number `j` on.

@@ -1,4 +1,4 @@
-// A value of 64 bits and the two numbers of 32 bits that its row holds, for document 02's request #104. Nothing uses them yet.
+// A value of 64 bits and the two numbers of 32 bits that its row holds (document 02, #104).
 ghost use mathlib.Core.Path.{_≡_};
 ghost use Prim.Native.Nat.{_<_};
 ghost use Rattle.guard.specs.Words.{highOf, lowOf, signedWord, unsignedWord, valueOf, word};

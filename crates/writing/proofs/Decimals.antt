@@ -47,9 +47,17 @@ decimal-digits n (suc r) f = by-digits r (suc n) n (few-digits r n low) (f .1) l
     low : 0 < r → 10 ^ r ≤ n
     low p = let e : suc r - 1 ≡ r = omega arith in subst (λ (k : ℕ). 10 ^ k ≤ n) e (f .2 (omega arith))
 
+-- a number below 10 ^ most has at most so many digits
+few-enough : (most n r : ℕ) → Fewest 10 1 n r → 0 < most → n < 10 ^ most → r ≤ most
+few-enough most n r f p h = by-test (leb r most) (leb-true r most) (λ e. absurd (over (leb-false r most e)))
+  where
+    over : most < r → ⊥
+    over l = let low : 10 ^ most ≤ 10 ^ (r - 1) = pow-le-pow-right {n = 10} (omega arith) {i = most} (omega arith) in omega (arith, h, low, f .2 (omega arith))
+
 -- a number of 32 bits has at most ten digits
 pub ten-digits : (n r : ℕ) → Fewest 10 1 n r → n < 4294967296 → r ≤ 10
-ten-digits n r f h = by-test (leb r 10) (leb-true r 10) (λ e. absurd (over (leb-false r 10 e)))
-  where
-    over : 10 < r → ⊥
-    over l = let low : 10 ^ 10 ≤ 10 ^ (r - 1) = pow-le-pow-right {n = 10} (omega arith) {i = 10} (omega arith) in omega (arith, h, low, f .2 (omega arith))
+ten-digits n r f h = few-enough 10 n r f (omega arith) (omega arith)
+
+-- one of 63 bits, or the next, has at most nineteen
+pub nineteen-digits : (n r : ℕ) → Fewest 10 1 n r → n ≤ 9223372036854775808 → r ≤ 19
+nineteen-digits n r f h = few-enough 19 n r f (omega arith) (omega arith)

@@ -38,7 +38,7 @@ pub fn put_named(out: &mut [u8], at: usize, name: &[u8], n: u32) -> usize
     put_number(out, next, n)
 }
 
-// By what the file would write for it: twice the value, or twice what lies below −1, and one.
+// A signed number of 32 bits, by what the file would write for it: twice the value, or twice what lies below −1, and one.
 pub fn put_signed(out: &mut [u8], at: usize, value: i32) -> usize
     requires { ⌜ at + 11 ≤ length (now out) ⌝ }
     ensures { λ r. ⌜ Written 11 (now (out .entry)) at (signed value) (now (out .exit)) r ⌝ }
@@ -48,6 +48,29 @@ pub fn put_signed(out: &mut [u8], at: usize, value: i32) -> usize
         return put_number(out, at, folded / 2);
     }
     put_named(out, at, b"-", folded / 2 + 1)
+}
+
+// A number of 63 bits, or the one after the last of them.
+fn put_long(out: &mut [u8], at: usize, n: u64) -> usize
+    requires { ⌜ n ≤ 9223372036854775808 ⌝ }
+    requires { ⌜ at + 19 ≤ length (now out) ⌝ }
+    ensures { λ r. ⌜ Written 19 (now (out .entry)) at (decimal n) (now (out .exit)) r ⌝ }
+{
+    let mut digits = [0u8; 20];
+    let k = io::decimal(n, &mut digits);
+    put_bytes(out, at, &digits[..k])
+}
+
+// A signed number of 64 bits. −1 − value fits where −value does not, at the lowest value.
+pub fn put_value(out: &mut [u8], at: usize, value: i64) -> usize
+    requires { ⌜ at + 20 ≤ length (now out) ⌝ }
+    ensures { λ r. ⌜ Written 20 (now (out .entry)) at (signed value) (now (out .exit)) r ⌝ }
+{
+    if value < 0 {
+        let next = put_bytes(out, at, b"-");
+        return put_long(out, next, (-1 - value) as u64 + 1);
+    }
+    put_long(out, at, value as u64)
 }
 
 // The number at `j`; 0 past the end.

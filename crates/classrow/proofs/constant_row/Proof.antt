@@ -5,7 +5,7 @@ use Rattle.classrow.proofs.constant_row.Tie as tie
 use Rattle.classrow.proofs.FixedLaws.{constant-drawn}
 use mathlib.Core.Path.{_∙_}
 use mir.Facts.{toZ-ofZ}
-use mir.Syntax.{w32}
+use mir.Syntax.{w64}
 use mir.Val.{ofZ, toZ}
 
 element-copy-out-less : tie.Need-element-copy-out-less
@@ -28,7 +28,7 @@ returns c =
     let a = c .before .before .before .before .before .before .before .before .args in
     let z = c .before .before .constant-value in
     let d = c .before .number-row in
-    constant-drawn (a .t1) (a .k) (a .rows .now) (a .many) (c .before .before .before .before .before .less .result) (toZ w32 (ofZ w32 (z .result))) (d .result .row) (d .last .0) (d .result .many) (c .before .before .before .before .before .less .ensures) (toZ-ofZ (record { sfits = z .ok }) ∙ z .ensures) (d .ensures)
+    constant-drawn (a .t1) (a .k) (a .rows .now) (a .many) (c .before .before .before .before .before .less .result) (toZ w64 (ofZ w64 (z .result))) (d .result .row) (d .last .0) (d .result .many) (c .before .before .before .before .before .less .ensures) (toZ-ofZ (record { sfits = z .ok }) ∙ z .ensures) (d .ensures)
 
 pub constant-row-spec : {M : Type 1} → statement M
 constant-row-spec =

@@ -5,7 +5,7 @@ use Rattle.freerows.proofs.number_planned.Tie as tie
 use Rattle.freerows.proofs.FreeLaws.{fresh-fits, fresh-number}
 use mathlib.Core.Path.{_≡_, subst}
 use lib.IntN.{ℤ, pos}
-use mir.Syntax.{w32}
+use mir.Syntax.{w64}
 use mir.Val.{toZ}
 use Rattle.drawnrows.specs.Drawing.{NumberDrawn}
 
@@ -31,7 +31,7 @@ returns c =
     let a = s .args in
     let z = c .before .before .before .next-fresh in
     let d = c .before .number-row in
-    let same : toZ w32 (z .result) ≡ pos (z .result) = fresh-number (a .leaf .constants) (a .leaf .values) (a .last) (z .result) (s .pre .1 .1) (z .ensures) in
+    let same : toZ w64 (z .result) ≡ pos (z .result) = fresh-number (a .leaf .constants) (a .leaf .values) (a .last) (z .result) (s .pre .1 .1) (z .ensures) in
     (z .ensures, subst (λ (y : ℤ). NumberDrawn (a .rows .now) (a .many) (a .t) y (d .last .0) (d .result .many) (d .result .row)) same (d .ensures))
 
 pub number-planned-spec : {M : Type 1} → statement M
