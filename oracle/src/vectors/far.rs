@@ -330,30 +330,35 @@ fn random_guards(set: &mut Set) {
     }
 }
 
-/// Random guards with a value that is cut off, or in a wrong form.
 fn refused(set: &mut Set) {
     let mut random = Random::named("far-refused");
-    let profiles = profiles();
     for question in [Question::NumberEnds, Question::NumberForm] {
         broken::fill(set, "far-refused", question, || {
-            let profile = &profiles[random.below(profiles.len())];
-            let tokens = random::draft(&mut random, profile).tokens(Limits::BASE);
-            let long = |at: &usize| {
-                let token = tokens[*at];
-                token.role == Role::Value && token.number > number::PLAIN.most
-            };
-            let places: Vec<usize> = (0..tokens.len()).filter(long).collect();
-            let Some(at) = random.pick(&places) else {
-                return bytes(&tokens);
-            };
-            let (before, value) = (bytes(&tokens[..at]), bytes(&tokens[at..=at]));
-            if question == Question::NumberEnds {
-                return [&before, &value[..random.below(value.len())]].concat();
-            }
-            let wrong = wrong_form(&mut random, &value);
-            [before, wrong, bytes(&tokens[at + 1..])].concat()
+            damage(&mut random, question)
         });
     }
+}
+
+/// A random guard with a value beyond 32 bits that is cut off, or in a wrong
+/// form.
+pub fn damage(random: &mut Random, question: Question) -> Vec<u8> {
+    let profiles = profiles();
+    let profile = &profiles[random.below(profiles.len())];
+    let tokens = random::draft(random, profile).tokens(Limits::BASE);
+    let far = |at: &usize| {
+        let token = tokens[*at];
+        token.role == Role::Value && token.number > number::PLAIN.most
+    };
+    let places: Vec<usize> = (0..tokens.len()).filter(far).collect();
+    let Some(at) = random.pick(&places) else {
+        return bytes(&tokens);
+    };
+    let (before, value) = (bytes(&tokens[..at]), bytes(&tokens[at..=at]));
+    if question == Question::NumberEnds {
+        return [&before, &value[..random.below(value.len())]].concat();
+    }
+    let wrong = wrong_form(random, &value);
+    [before, wrong, bytes(&tokens[at + 1..])].concat()
 }
 
 /// A value in one byte too many, too large, or without an end.
