@@ -105,8 +105,8 @@ def constants(size):
     differ. The largest is as long as a guard can be."""
     many = math.ceil(5 * size / 24)
     types = number(1 + many) + b"\x00" + filled(many, 2 * size)
-    # The values take five bytes.
-    rows = [b"\x01\x00" + number(2**29 + 2 * i) for i in range(size)]
+    # The values take ten bytes.
+    rows = [b"\x01\x00" + number(2**63 + 2 * i) for i in range(size)]
     return types + number(size) + b"".join(rows) + unequal(range(size), size)
 
 

@@ -45,7 +45,7 @@ extern "C" {
 #define GUARDDESK_RECORD_BYTES_PER_NODE 3
 
 /* How many bytes of output always suffice for guarddesk_write: no guard file is longer. */
-#define GUARDDESK_FILE_LENGTH 465
+#define GUARDDESK_FILE_LENGTH 585
 
 /* The nodes of a record, by their first number. */
 #define GUARDDESK_EMPTY_LABEL 0      /* a term: no variant is left for it */
@@ -73,7 +73,8 @@ extern "C" {
  *   10  bytes follow the last line
  *
  * After SAT, row i is rows[4 * i] to rows[4 * i + 3]:
- *   a number of type t:      -1 - t, the number, 0, 0
+ *   a number of type t:      -1 - t, its low 32 bits as a signed number, the number divided by 4294967296 rounded down, 0;
+ *                            so it is rows[4 * i + 2] * INT64_C(4294967296) + (uint32_t)rows[4 * i + 1]
  *   variant v of type t:     16 * t + v, then the rows of its parts, one for each field, all lower than i; 0 where unused
  * and places[j] is the row of term j of the file. No two rows are alike, so terms show the same message exactly if they
  * have the same place. Rows and places behind the last one are 0. After every other verdict both buffers are all 0.
@@ -130,16 +131,16 @@ uint32_t guarddesk_check(const uint8_t *file, size_t file_length, const uint8_t 
 
 /*
  * Writes the guard file of a list of its numbers: counts, kinds and names as they are, in file order, and the constants as their
- * values, from -2147483648 to 2147483647. The other calls take what it writes, and read these numbers from it; the numbers of a
- * file that they take are written as that file, byte for byte.
+ * values, whatever these are. The other calls take what it writes, and read these numbers from it; the numbers of a file that
+ * they take are written as that file, byte for byte.
  *
  * It returns how many bytes the file has. They stand in front of out, and bytes behind them are 0. GUARDDESK_FILE_LENGTH bytes
  * always suffice. Otherwise it returns a number below 0, minus the first question that got a no, and all of out is 0:
- *    -2  the list ends before the guard does     -6  a kind is none of those listed
- *    -3  a constant is beyond 32 bits            -7  a type does not fit
+ *    -2  the list ends before the guard does     -7  a type does not fit
  *    -4  a count is outside its limits           -8  a type has no default
  *    -5  something named is not there            -9  a variant with fields has none of infinite type
- *   -10  numbers follow the last line           -14  the file has more than out_length bytes; this is asked last
+ *    -6  a kind is none of those listed         -10  numbers follow the last line
+ *   -14  the file has more than out_length bytes; this is asked last
  * A negative number where a count, a name or a kind stands gets -4, -5 or -6, as one that is too large does.
  *
  * The caller owes what guarddesk_decide asks, for these two areas.

@@ -26,7 +26,7 @@ pub enum Role {
 #[derive(Clone, Copy, Debug, PartialEq, Eq)]
 pub struct Token {
     pub role: Role,
-    pub number: u32,
+    pub number: u64,
 }
 
 /// A guard in the making.
@@ -77,7 +77,7 @@ impl Draft {
         (0..many).map(|_| self.variable(ty)).collect()
     }
 
-    pub fn constant(&mut self, ty: usize, value: i32) -> usize {
+    pub fn constant(&mut self, ty: usize, value: i64) -> usize {
         self.push(Row::Constant { ty, value }, ty)
     }
 
@@ -192,12 +192,12 @@ impl Draft {
         let variants = |term: usize| self.types[self.row_types[term]].variants.len();
         match *line {
             Line::Equal(a, b) | Line::Unequal(a, b) => {
-                out.kind(u32::from(matches!(line, Line::Unequal(..))));
+                out.kind(u64::from(matches!(line, Line::Unequal(..))));
                 out.name(a, terms);
                 out.typed(b, terms);
             }
             Line::Is(term, variant) | Line::Isnt(term, variant) => {
-                out.kind(2 + u32::from(matches!(line, Line::Isnt(..))));
+                out.kind(2 + u64::from(matches!(line, Line::Isnt(..))));
                 out.typed(term, terms);
                 out.name(variant, variants(term));
             }
@@ -221,12 +221,12 @@ pub fn bytes(tokens: &[Token]) -> Vec<u8> {
 struct Tokens(Vec<Token>);
 
 impl Tokens {
-    fn push(&mut self, role: Role, number: u32) {
+    fn push(&mut self, role: Role, number: u64) {
         self.0.push(Token { role, number });
     }
 
     fn push_size(&mut self, role: Role, number: usize) {
-        self.push(role, u32::try_from(number).expect("a draft is small"));
+        self.push(role, number as u64);
     }
 
     fn count(&mut self, number: usize, limit: usize) {
@@ -241,7 +241,7 @@ impl Tokens {
         self.push_size(Role::Typed { things }, number);
     }
 
-    fn kind(&mut self, number: u32) {
+    fn kind(&mut self, number: u64) {
         self.push(Role::Kind, number);
     }
 }

@@ -34,7 +34,7 @@ pub enum Row {
     },
     Constant {
         ty: usize,
-        value: i32,
+        value: i64,
     },
     Built {
         ty: usize,

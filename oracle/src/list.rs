@@ -8,8 +8,8 @@ use crate::guard::Limits;
 use crate::number;
 use crate::read::{self, Numbers, Question};
 
-/// "No accepted file is longer than 465 bytes."
-pub const LONGEST_FILE: usize = 465;
+/// Request #104: "the longest file is 585 bytes".
+pub const LONGEST_FILE: usize = 585;
 
 /// Why the writer refuses.
 #[derive(Clone, Copy, Debug, PartialEq, Eq)]
@@ -42,9 +42,9 @@ impl Numbers for List<'_> {
         Ok(first)
     }
 
-    /// "A constant beyond 32 bits gets 3."
-    fn value(&mut self) -> Result<i32, Question> {
-        i32::try_from(self.plain()?).map_err(|_| Question::NumberForm)
+    /// Request #104: "the writer's 3 no longer occurs".
+    fn value(&mut self) -> Result<i64, Question> {
+        self.plain()
     }
 
     fn ended(&self) -> bool {
@@ -79,8 +79,8 @@ pub fn numbers(file: &[u8], limits: Limits) -> Result<Vec<i64>, Question> {
 /// "The file's in file order and constants as their values."
 pub fn of_tokens(tokens: &[Token]) -> Vec<i64> {
     let listed = |token: &Token| match token.role {
-        Role::Value => i64::from(number::unfold(token.number)),
-        _ => i64::from(token.number),
+        Role::Value => number::unfold(token.number),
+        _ => token.number as i64,
     };
     tokens.iter().map(listed).collect()
 }
@@ -161,7 +161,7 @@ mod tests {
     }
 
     #[test]
-    fn values_to_both_ends_and_beyond() {
+    fn values_to_both_ends() {
         for (value, bytes) in [
             (0, "00"),
             (-1, "01"),
@@ -172,20 +172,23 @@ mod tests {
             (-65, "81 01"),
             (i64::from(i32::MAX), "fe ff ff ff 0f"),
             (i64::from(i32::MIN), "ff ff ff ff 0f"),
-        ] {
-            let expected = unhex(&format!("01 00 01 01 00 {bytes} 00"));
-            assert_eq!(constant(value).ok(), expected, "{value}");
-        }
-        for beyond in [
-            i64::from(i32::MAX) + 1,
-            i64::from(i32::MIN) - 1,
+            (i64::from(i32::MAX) + 1, "80 80 80 80 10"),
+            (i64::from(i32::MIN) - 1, "81 80 80 80 10"),
             // Their low 32 bits are 0 and −1.
-            1 << 32,
-            (1 << 32) - 1,
-            i64::MAX,
-            i64::MIN,
+            (1 << 32, "80 80 80 80 20"),
+            ((1 << 32) - 1, "fe ff ff ff 1f"),
+            ((1 << 34) - 1, "fe ff ff ff 7f"),
+            (-(1 << 34), "ff ff ff ff 7f"),
+            (1 << 34, "80 80 80 80 80 01"),
+            ((1 << 62) - 1, "fe ff ff ff ff ff ff ff 7f"),
+            (1 << 62, "80 80 80 80 80 80 80 80 80 01"),
+            (i64::MAX, "fe ff ff ff ff ff ff ff ff 01"),
+            (i64::MIN, "ff ff ff ff ff ff ff ff ff 01"),
         ] {
-            assert_eq!(constant(beyond), Err(3), "{beyond}");
+            let expected = unhex(&format!("01 00 01 01 00 {bytes} 00")).expect("hexadecimal");
+            assert_eq!(constant(value), Ok(expected.clone()), "{value}");
+            let list = numbers(&expected, Limits::BASE).expect("an accepted file");
+            assert_eq!(list, [1, 0, 1, 1, 0, value, 0]);
         }
     }
 
@@ -226,11 +229,11 @@ mod tests {
     #[test]
     fn the_first_no_counts() {
         for (text, question) in [
-            // A constant of a variant type, far beyond 32 bits.
+            // A constant of a variant type.
             ("1 1 0  1 1 0 4294967296", 7),
-            // A constant beyond 32 bits, and nothing behind it.
-            ("1 0  1 1 0 2147483648", 3),
-            ("1 0  1 1 0 2147483648  1 9 9 9  7", 3),
+            // A constant beyond 32 bits is no fault: what is behind it counts.
+            ("1 0  1 1 0 2147483648", 2),
+            ("1 0  1 1 0 2147483648  1 9 9 9  7", 6),
             // No default, then a count that is too large.
             ("1 1 1 0  25", 8),
             // Both 8 and 9.

@@ -45,7 +45,7 @@ pub struct Read {
 pub struct Constant {
     pub term: usize,
     pub ty: usize,
-    pub value: i32,
+    pub value: i64,
 }
 
 /// A guard with all its terms listed.

@@ -61,12 +61,23 @@ impl Random {
     }
 }
 
-/// A value for a constant, near the ends of each length that it may have.
-pub fn edge_value(random: &mut Random) -> i32 {
-    let edge = 1i64 << [0, 6, 13, 20, 27, 31][random.below(6)];
+/// A value for a constant of up to 32 bits, near the ends of each length that
+/// it may have.
+pub fn edge_value(random: &mut Random) -> i64 {
+    let edge = 1 << [0, 6, 13, 20, 27, 31][random.below(6)];
     let near = edge + random.below(5) as i64 - 2;
     let signed = if random.percent(50) { near } else { -near };
-    signed.clamp(i64::from(i32::MIN), i64::from(i32::MAX)) as i32
+    signed.clamp(i64::from(i32::MIN), i64::from(i32::MAX))
+}
+
+/// The same for a constant of up to 64 bits, and near those where its row's
+/// two numbers change sign.
+pub fn far_value(random: &mut Random) -> i64 {
+    let edges = [31, 32, 33, 34, 41, 48, 55, 62, 63];
+    let edge = 1i128 << edges[random.below(edges.len())];
+    let near = edge + random.below(5) as i128 - 2;
+    let signed = if random.percent(50) { near } else { -near };
+    signed.clamp(i128::from(i64::MIN), i128::from(i64::MAX)) as i64
 }
 
 /// How the types of a random guard are made.
@@ -101,7 +112,7 @@ pub struct Profile {
     /// The chance that a read or a built row uses the latest row it can.
     pub deep: usize,
     /// The values of constants.
-    pub values: Vec<i32>,
+    pub values: Vec<i64>,
 }
 
 /// A random guard that is accepted.

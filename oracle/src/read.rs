@@ -2,7 +2,7 @@
 //! bytes of a file, or from where else its numbers come.
 
 use crate::guard::{Guard, Limits, Line, Row, FIELDS, VARIANTS_IN_ALL, VARIANTS_PER_TYPE};
-use crate::number;
+use crate::number::{self, Width};
 use crate::types::{self, Type};
 
 /// The questions of document 01; a "no" refuses with the question's number.
@@ -65,8 +65,9 @@ pub trait Numbers {
     /// A count, a name or a kind, whatever its size.
     fn plain(&mut self) -> Result<i64, Question>;
 
-    /// The value of a constant.
-    fn value(&mut self) -> Result<i32, Question>;
+    /// The value of a constant. Request #104: "signed values now run over 64
+    /// bits".
+    fn value(&mut self) -> Result<i64, Question>;
 
     /// Is no number left?
     fn ended(&self) -> bool;
@@ -114,8 +115,8 @@ struct File<'a> {
 
 impl File<'_> {
     /// Questions 2 and 3.
-    fn number(&mut self) -> Result<u32, Question> {
-        let (value, length) = number::read(self.rest).map_err(|fault| match fault {
+    fn number(&mut self, width: Width) -> Result<u64, Question> {
+        let (value, length) = number::read(self.rest, width).map_err(|fault| match fault {
             number::Fault::CutOff => Question::NumberEnds,
             number::Fault::Form => Question::NumberForm,
         })?;
@@ -126,11 +127,11 @@ impl File<'_> {
 
 impl Numbers for File<'_> {
     fn plain(&mut self) -> Result<i64, Question> {
-        self.number().map(i64::from)
+        self.number(number::PLAIN).map(|number| number as i64)
     }
 
-    fn value(&mut self) -> Result<i32, Question> {
-        self.number().map(number::unfold)
+    fn value(&mut self) -> Result<i64, Question> {
+        self.number(number::VALUE).map(number::unfold)
     }
 
     fn ended(&self) -> bool {

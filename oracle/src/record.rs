@@ -91,7 +91,7 @@ impl Entry {
 }
 
 fn take_number(rest: &mut &[u8]) -> Option<usize> {
-    let (value, length) = number::read(rest).ok()?;
+    let (value, length) = number::read(rest, number::PLAIN).ok()?;
     *rest = &rest[length..];
     usize::try_from(value).ok()
 }

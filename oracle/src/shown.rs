@@ -2,6 +2,7 @@
 
 use crate::answer::{answer_with_buffers, Answer};
 use crate::guard::{Guard, Limits, Line, Row};
+use crate::number;
 use crate::read;
 use crate::types::DefaultOf;
 
@@ -25,7 +26,7 @@ fn ensure(condition: bool, fault: impl FnOnce() -> Fault) -> Result<(), Fault> {
 pub enum Message {
     Number {
         ty: usize,
-        value: i32,
+        value: i64,
     },
     Variant {
         ty: usize,
@@ -128,8 +129,9 @@ fn messages(guard: &Guard, row_count: usize, rows: &[i32]) -> Result<Vec<Message
 }
 
 /// "A message of type t and variant v has 16 × t + v, then the rows of its
-/// parts, all lower than i. A number of type t has −1 − t, then its value.
-/// Unused numbers of a row are 0."
+/// parts, all lower than i. [...] Unused numbers of a row are 0." Request #104:
+/// "A number's row holds −1 − t, then the low 32 bits as a signed number, then
+/// the value divided by 4,294,967,296 rounded down."
 fn message(guard: &Guard, earlier: &[Message], numbers: &[i32]) -> Result<Message, Fault> {
     let (head, rest) = (numbers[0], &numbers[1..]);
     let (message, used) = if head < 0 {
@@ -141,7 +143,8 @@ fn message(guard: &Guard, earlier: &[Message], numbers: &[i32]) -> Result<Messag
         ensure(found.is_number(), || {
             format!("type {ty} isn't a number type")
         })?;
-        (Message::Number { ty, value: rest[0] }, 1)
+        let value = number::of_words([rest[0], rest[1]]);
+        (Message::Number { ty, value }, 2)
     } else {
         let (ty, variant) = (head as usize / 16, head as usize % 16);
         let found = guard

@@ -78,7 +78,7 @@ fn datatypes(guard: &Guard) -> Option<String> {
     })
 }
 
-fn integer(value: i32) -> String {
+fn integer(value: i64) -> String {
     if value < 0 {
         format!("(- {})", value.unsigned_abs())
     } else {

@@ -98,6 +98,11 @@ fn three(numbers: &[usize]) -> [usize; FIELDS] {
     places
 }
 
+/// A number of 64 bits as two entries, the low one first.
+fn halves(number: u64) -> [u32; 2] {
+    [number as u32, (number >> 32) as u32]
+}
+
 /// The count; for each row its kind, type, variant, parts and value.
 fn rows(guard: &Guard) -> Vec<u32> {
     let kinds = guard.rows.iter().map(|row| match row {
@@ -115,16 +120,16 @@ fn rows(guard: &Guard) -> Vec<u32> {
         Row::Built { parts, .. } => three(parts),
         Row::Read { term, position, .. } => three(&[*term, *position]),
     });
-    // A signed value counts as the guard file writes it.
+    // A signed value counts as the guard file writes it, low half first.
     let mut values: Vec<u32> = guard
         .rows
         .iter()
-        .map(|row| match row {
-            Row::Constant { value, .. } => number::fold(*value),
-            _ => 0,
+        .flat_map(|row| match row {
+            Row::Constant { value, .. } => halves(number::fold(*value)),
+            _ => [0, 0],
         })
         .collect();
-    values.resize(ROWS, 0);
+    values.resize(2 * ROWS, 0);
     [
         vec![entry(guard.rows.len())],
         column(ROWS, kinds),
@@ -226,7 +231,7 @@ mod tests {
             padded(24, &[1, 0, 1, 1]),
             padded(24, &[0, 0, 1, 1]),
             padded(72, &[0, 0, 0, 0, 0, 0, 1, 0, 0, 0, 1]),
-            padded(24, &[0, 5]),
+            padded(48, &[0, 0, 5, 0]),
             padded(1, &[4]),
             padded(64, &[0, 1, 2, 3]),
             padded(64, &[2, 0, 3, 0]),

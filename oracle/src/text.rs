@@ -4,6 +4,7 @@ use std::fmt::Write;
 
 use crate::answer::answer;
 use crate::guard::{Guard, Limits, FIELDS, VARIANTS_PER_TYPE};
+use crate::number;
 use crate::read;
 use crate::shown::{check_shown, Fault};
 
@@ -87,7 +88,8 @@ pub fn print(guard: &Guard, numbers: &Numbers) -> String {
     for (i, row) in numbers.rows.chunks(4).enumerate() {
         let head = row[0];
         let line = if head < 0 {
-            format!("row {i} type {} number {}", -1 - i64::from(head), row[1])
+            let (ty, value) = (-1 - i64::from(head), number::of_words([row[1], row[2]]));
+            format!("row {i} type {ty} number {value}")
         } else {
             let (ty, variant) = (head as usize / 16, head as usize % 16);
             let mut line = format!("row {i} type {ty} variant {variant}");
@@ -124,10 +126,11 @@ fn parse_line(numbers: &mut Numbers, line: &str) -> Result<(), Fault> {
         ["row", row, "type", ty, "number", value] => {
             in_turn(numbers, row)?;
             let ty = below(TYPE_NUMBERS, ty)?;
-            let value: i32 = value
+            let value = value
                 .parse()
-                .map_err(|_| "the value isn't a signed 32-bit number")?;
-            numbers.rows.extend([-1 - ty, value, 0, 0]);
+                .map_err(|_| "the value isn't a signed 64-bit number")?;
+            let [low, high] = number::words(value);
+            numbers.rows.extend([-1 - ty, low, high, 0]);
         }
         ["row", row, "type", ty, "variant", variant, ref parts @ ..] => {
             in_turn(numbers, row)?;

@@ -8,7 +8,7 @@ use oracle::types::DefaultOf;
 
 #[derive(Clone, Debug, PartialEq)]
 enum Message {
-    Number(i32),
+    Number(i64),
     Variant(usize, Vec<Message>),
 }
 

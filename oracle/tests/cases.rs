@@ -110,6 +110,54 @@ fn siblings_of_an_absent_variant_are_split_on() {
     assert_eq!(given(text, 2), "SAT 2");
 }
 
+/// Request #104: "Signed values now run over 64 bits, with up to ten bytes and
+/// at most 18,446,744,073,709,551,615 as written; a tenth byte with bit 80
+/// counts as the end. Counts and names keep five."
+#[test]
+fn values_over_64_bits() {
+    let nine = "ff ff ff ff ff ff ff ff ff";
+    let one = |value: &str, rest: &str| given(&format!("01 00 01 01 00 {value} {rest}"), 1);
+    for (value, rest, expected) in [
+        // −9,223,372,036,854,775,808, and one more as written.
+        (format!("{nine} 01"), "00", "SAT 1"),
+        (
+            "80 80 80 80 80 80 80 80 80 02".to_string(),
+            "00",
+            "REFUSED 3",
+        ),
+        // A tenth byte with bit 80, with an eleventh and without.
+        (format!("{nine} 81"), "00", "REFUSED 3"),
+        (format!("{nine} 81"), "", "REFUSED 3"),
+        // The file ends in the value, or behind it.
+        (nine.to_string(), "", "REFUSED 2"),
+        ("ff ff ff ff ff".to_string(), "", "REFUSED 2"),
+        (format!("{nine} 01"), "", "REFUSED 2"),
+        // One byte too many.
+        (format!("{nine} 00"), "00", "REFUSED 3"),
+        ("ff ff ff ff ff 00".to_string(), "00", "REFUSED 3"),
+        ("ff ff ff ff 7f".to_string(), "00", "SAT 1"),
+    ] {
+        assert_eq!(one(&value, rest), expected, "{value} {rest}");
+    }
+    // A count, a kind and a name of six bytes, and of five without an end.
+    for before in ["", "01", "01 00", "01 00 01", "01 00 01 00"] {
+        for number in ["80 80 80 80 80 01", "80 80 80 80 80", "80 80 80 80 10"] {
+            assert_eq!(given(&format!("{before} {number}"), 1), "REFUSED 3");
+        }
+        assert_eq!(given(&format!("{before} 80 80 80 80"), 1), "REFUSED 2");
+    }
+    // 4,294,967,296 and 0, 4,294,967,295 and −1: their low 32 bits are the same.
+    for pair in [
+        "80 80 80 80 20 01 00 00",
+        "fe ff ff ff 1f 01 00 01",
+        // Both ends.
+        "fe ff ff ff ff ff ff ff ff 01 01 00 ff ff ff ff ff ff ff ff ff 01",
+    ] {
+        let lines = |kind: u8| given(&format!("01 00 02 01 00 {pair} 01 0{kind} 00 01"), 1);
+        assert_eq!((lines(0), lines(1)), ("UNSAT 1".into(), "SAT 1".into()));
+    }
+}
+
 /// "SPENT is given precisely if the walk would visit more nodes than the
 /// budget."
 #[test]

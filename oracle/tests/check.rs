@@ -57,12 +57,12 @@ fn damaged_answers_fail() {
         ("number 7", "number 5", "rows 1 and 3 are alike"),
         (
             "number 7",
-            "number 2147483648",
-            "isn't a signed 32-bit number",
+            "number 9223372036854775808",
+            "isn't a signed 64-bit number",
         ),
         ("number 7", "number +7", "the form is"),
         ("number 7", "number 07", "the form is"),
-        ("number 7", "number seven", "isn't a signed 32-bit number"),
+        ("number 7", "number seven", "isn't a signed 64-bit number"),
         ("number 5", "number 6", "term 1 has a wrong value"),
         ("row 1 type 0", "row 1 type 1", "type 1 isn't a number type"),
         ("row 1 type 0", "row 1 type 2", "there is no type 2"),
@@ -204,7 +204,11 @@ fn buffers_are_checked_to_their_ends() {
         (0, i32::MIN),
         (9, -1),
         (11, 1),
-        (6, 1),
+        // A fourth number for the 7; another high half and a fourth number for the 5.
+        (7, 1),
+        (14, 1),
+        (14, -1),
+        (15, 1),
     ] {
         let mut rows = rows.clone();
         rows[at] = number;
@@ -221,6 +225,70 @@ fn buffers_are_checked_to_their_ends() {
     let checked = |rows: &[i32]| check_call(&file, 0, Limits::BASE, spent, rows, &[0; 24]);
     assert_eq!(checked(&[0; 16_384]), Ok(()));
     assert!(checked(&rows).is_err());
+}
+
+/// The constants 4,294,967,295, −1, −4,294,967,296, −4,294,967,297 and both
+/// ends of 64 bits, and a variable that is none of them.
+const FAR: &str = "01 00 07 01 00 fe ff ff ff 1f 01 00 01 01 00 ff ff ff ff 1f \
+    01 00 81 80 80 80 20 01 00 ff ff ff ff ff ff ff ff ff 01 \
+    01 00 fe ff ff ff ff ff ff ff ff 01 00 00 \
+    06 01 00 06 01 01 06 01 02 06 01 03 06 01 04 06 01 05 06";
+const FAR_VALUES: [i64; 7] = [
+    4_294_967_295,
+    -1,
+    -4_294_967_296,
+    -4_294_967_297,
+    i64::MIN,
+    i64::MAX,
+    1,
+];
+const FAR_ROWS: [[i32; 4]; 7] = [
+    [-1, -1, 0, 0],
+    [-1, -1, -1, 0],
+    [-1, 0, -1, 0],
+    [-1, -1, -2, 0],
+    [-1, 0, i32::MIN, 0],
+    [-1, -1, i32::MAX, 0],
+    [-1, 1, 0, 0],
+];
+
+/// "A number's row holds −1 − t, then the low 32 bits as a signed number, then
+/// the value divided by 4,294,967,296 rounded down."
+#[test]
+fn rows_of_numbers() {
+    let file = unhex(FAR).expect("hexadecimal");
+    let guard = read::read(&file, Limits::BASE).expect("accepted");
+    let rows: Vec<i32> = FAR_ROWS.concat();
+    let places: Vec<i32> = (0..7).collect();
+    assert_eq!(check_shown(&guard, 7, &rows, &places), Ok(()));
+
+    let mut printed = String::new();
+    for (row, value) in FAR_VALUES.iter().enumerate() {
+        printed += &format!("row {row} type 0 number {value}\n");
+    }
+    for term in 0..7 {
+        printed += &format!("term {term} row {term}\n");
+    }
+    let numbers = parse(&printed).expect("printed rows");
+    assert_eq!((&numbers.rows, &numbers.places), (&rows, &places));
+    assert_eq!(checked(FAR, &format!("SAT 1\n{printed}")), Ok(()));
+
+    for row in 0..FAR_ROWS.len() {
+        for (at, change) in [(1, 1), (2, 1), (2, i32::MIN), (3, 1), (3, -1)] {
+            let mut wrong = rows.clone();
+            let number = &mut wrong[4 * row + at];
+            *number = number.wrapping_add(change);
+            let free = row == 6 && at < 3;
+            let found = check_shown(&guard, 7, &wrong, &places);
+            assert_eq!(found.is_ok(), free, "row {row}, number {at} by {change}");
+        }
+    }
+    // The free number as one of the others, and as one with their low half.
+    for (row, right) in [([-1, -1, 0, 0], false), ([-1, -1, 1, 0], true)] {
+        let mut rows = rows.clone();
+        rows[24..].copy_from_slice(&row);
+        assert_eq!(check_shown(&guard, 7, &rows, &places).is_ok(), right);
+    }
 }
 
 #[test]

@@ -6,6 +6,7 @@ use std::path::Path;
 
 use oracle::answer::answer;
 use oracle::guard::{Limits, Row, VARIANTS_IN_ALL};
+use oracle::list::LONGEST_FILE;
 use oracle::problem::Problem;
 use oracle::read::read;
 use oracle::search::{search, End, Tally};
@@ -83,7 +84,7 @@ fn searches_are_varied() {
             }
         }
     }
-    assert_eq!(longest, 465);
+    assert_eq!(longest, LONGEST_FILE);
     assert!(full >= 20, "{full}");
     assert!(total.closed.iter().all(|&guards| guards >= 50), "{total:?}");
     assert!(

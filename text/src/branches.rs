@@ -87,7 +87,7 @@ impl Printer<'_> {
     /// Two different numbers that a term is equal to at this node. They are the constants of the
     /// guard for which this holds; if it's only one, the other is the default 0. None if the line
     /// that asks for it doesn't fit into the guard, or if it takes too long.
-    fn two_numbers(&mut self, term: Term) -> Option<(i32, i32)> {
+    fn two_numbers(&mut self, term: Term) -> Option<(i64, i64)> {
         // Of equal terms the record names the lowest one, and one of the constants is a row.
         let Term::Row(row) = term else { return None };
         let guard = &self.terms.source.guard;
@@ -124,7 +124,7 @@ impl Printer<'_> {
 }
 
 /// The rows of a type that are constants, with their values.
-fn constants(guard: &Guard, ty: usize) -> impl Iterator<Item = (usize, i32)> + '_ {
+fn constants(guard: &Guard, ty: usize) -> impl Iterator<Item = (usize, i64)> + '_ {
     let rows = guard.rows.iter().enumerate();
     rows.filter_map(move |(row, constant)| match constant {
         Row::Constant(of, value) if *of == ty => Some((row, *value)),

@@ -125,37 +125,38 @@ impl Reader<'_> {
         Err(Refusal { offset, why })
     }
 
-    fn number(&mut self) -> Result<u32, Refusal> {
+    /// A number of at most so many bytes and `most`.
+    fn number(&mut self, bytes: usize, most: u64) -> Result<u64, Refusal> {
         self.last = self.next;
         let rest = &self.file[self.next..];
-        // "A fifth byte with bit 80 set counts here as its end."
-        let end = rest.iter().take(5).position(|byte| byte & 0x80 == 0);
-        self.ask(end.is_some() || rest.len() >= 5, Why::CutOff)?;
-        let length = end.map_or(5, |end| end + 1);
-        let mut value = 0_u64;
+        // "A fifth byte with bit 80 set counts here as its end"; a tenth of a value.
+        let end = rest.iter().take(bytes).position(|byte| byte & 0x80 == 0);
+        self.ask(end.is_some() || rest.len() >= bytes, Why::CutOff)?;
+        let length = end.map_or(bytes, |end| end + 1);
+        let mut value = 0_u128;
         for (i, byte) in rest[..length].iter().enumerate() {
-            value |= u64::from(byte & 0x7f) << (7 * i);
+            value |= u128::from(byte & 0x7f) << (7 * i);
         }
         let shortest = length == 1 || rest[length - 1] != 0;
-        self.ask(end.is_some() && shortest, Why::Form)?;
+        let right = end.is_some() && shortest && value <= most.into();
+        self.ask(right, Why::Form)?;
         self.next += length;
-        match u32::try_from(value) {
-            Ok(value) => Ok(value),
-            Err(_) => Err(Refusal {
-                offset: self.last,
-                why: Why::Form,
-            }),
-        }
+        Ok(value as u64)
+    }
+
+    /// A count, a name or a kind.
+    fn plain(&mut self) -> Result<usize, Refusal> {
+        Ok(self.number(5, u32::MAX.into())? as usize)
     }
 
     fn below(&mut self, bound: usize, why: Why) -> Result<usize, Refusal> {
-        let value = self.number()? as usize;
+        let value = self.plain()?;
         self.ask(value < bound, why)?;
         Ok(value)
     }
 
     fn count(&mut self, limit: usize) -> Result<usize, Refusal> {
-        let found = self.number()? as usize;
+        let found = self.plain()?;
         self.ask(found <= limit, Why::Count { found, limit })?;
         Ok(found)
     }
@@ -220,9 +221,9 @@ impl Reader<'_> {
             }
             1 => {
                 let ty = self.ty(true)?;
-                let folded = self.number()?;
+                let folded = self.number(10, u64::MAX)?;
                 // Half of it, or the complement of half of it.
-                let value = (folded >> 1) as i32 ^ -((folded & 1) as i32);
+                let value = (folded >> 1) as i64 ^ -((folded & 1) as i64);
                 Ok((Row::Constant(ty, value), ty))
             }
             2 => {

@@ -7,7 +7,7 @@ use guarddesk::{Kind, Refutation};
 pub enum Message {
     Number {
         ty: usize,
-        value: i32,
+        value: i64,
     },
     Built {
         ty: usize,

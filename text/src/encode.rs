@@ -51,7 +51,7 @@ impl List {
             Row::Variable(ty) => self.sizes(&[0, *ty]),
             Row::Constant(ty, value) => {
                 self.sizes(&[1, *ty]);
-                self.0.push(i64::from(*value));
+                self.0.push(*value);
             }
             Row::Built(ty, variant, parts) => {
                 self.sizes(&[2, *ty, *variant]);
@@ -81,7 +81,7 @@ mod tests {
     use super::*;
 
     /// A guard of numbers alone, with these constants.
-    fn constants(values: &[i32]) -> Guard {
+    fn constants(values: &[i64]) -> Guard {
         Guard {
             types: vec![Default::default()],
             rows: values.iter().map(|&v| Row::Constant(0, v)).collect(),
@@ -92,12 +92,12 @@ mod tests {
 
     #[test]
     fn constants_are_their_values() {
-        let guard = constants(&[-3, i32::MIN, i32::MAX]);
-        let (least, most) = (i64::from(i32::MIN), i64::from(i32::MAX));
-        let wanted = [1, 0, 3, 1, 0, -3, 1, 0, least, 1, 0, most, 0];
+        let guard = constants(&[-3, i64::MIN, i64::MAX]);
+        let wanted = [1, 0, 3, 1, 0, -3, 1, 0, i64::MIN, 1, 0, i64::MAX, 0];
         assert_eq!(numbers(&guard), wanted);
         let file = encode(&guard).expect("a file");
-        assert_eq!(hex(&file), "0100030100050100ffffffff0f0100feffffff0f00");
+        let ends = "0100ffffffffffffffffff010100feffffffffffffffff01";
+        assert_eq!(hex(&file), format!("010003010005{ends}00"));
     }
 
     #[test]

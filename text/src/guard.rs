@@ -28,7 +28,7 @@ impl Type {
 #[derive(Clone, Debug, PartialEq, Eq, Hash)]
 pub enum Row {
     Variable(usize),
-    Constant(usize, i32),
+    Constant(usize, i64),
     Built(usize, usize, Vec<usize>),
     /// A term, a variant and a position.
     Read(usize, usize, usize),

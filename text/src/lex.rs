@@ -42,7 +42,7 @@ const MARKS: [&str; 8] = ["!=", "=", "|", "(", ")", ",", ":", "."];
 #[derive(Clone, Debug, PartialEq, Eq)]
 pub enum Token {
     Name(String),
-    Number(i32),
+    Number(i64),
     Keyword(&'static str),
     Mark(&'static str),
     LineEnd,
@@ -136,7 +136,7 @@ fn token(at: Place, first: char, rest: &str) -> Result<(Token, usize), Fault> {
         return match word.parse() {
             Ok(value) => Ok((Token::Number(value), length)),
             Err(_) => {
-                let (low, high) = (i32::MIN, i32::MAX);
+                let (low, high) = (i64::MIN, i64::MAX);
                 let why = format!("expected a number from {low} to {high}, found `{word}`");
                 Err(Fault::new(at, why))
             }

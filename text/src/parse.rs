@@ -20,7 +20,7 @@ pub struct Variant {
 
 #[derive(Clone, Debug, PartialEq, Eq)]
 pub enum Base {
-    Number(i32),
+    Number(i64),
     /// A named term or a variant, and the parts that it is built from.
     Name(String, Vec<Term>),
 }

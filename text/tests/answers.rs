@@ -22,7 +22,7 @@ fn refused(text: &str, question: u32) -> String {
     answered(text, Answer::Refused(question)).unwrap_or_else(|why| panic!("{why}"))
 }
 
-fn number(value: i32) -> Message {
+fn number(value: i64) -> Message {
     Message::Number { ty: 0, value }
 }
 

@@ -41,6 +41,19 @@ x is cons?
     );
 }
 
+/// Both numbers in full, where they differ in their high halves alone.
+#[test]
+fn numbers_over_64_bits_are_told_apart() {
+    assert_eq!(
+        with_lists("var x: List\nx.head = 4294967301\nx.head = 5"),
+        "closed: x.head is equal to 5 and to 4294967301\n"
+    );
+    assert_eq!(
+        with_lists("var x: List\nx is nil\nx.head = -9223372036854775808"),
+        "closed: x.head is equal to -9223372036854775808 and to 0\n"
+    );
+}
+
 #[test]
 fn lines_are_those_of_the_text() {
     assert_eq!(

@@ -52,6 +52,21 @@ fn case_j() {
 }
 
 #[test]
+fn numbers_over_64_bits() {
+    for (number, bytes) in [
+        ("2147483648", "8080808010"),
+        ("-2147483649", "8180808010"),
+        ("4294967296", "8080808020"),
+        ("9223372036854775807", "feffffffffffffffff01"),
+        ("-9223372036854775808", "ffffffffffffffffff01"),
+    ] {
+        let text = format!("type Time = number\nvar at: Time\nat = {number}");
+        let wanted = format!("01000200000100{bytes}01000001");
+        assert_eq!(file(&text), wanted, "{number}");
+    }
+}
+
+#[test]
 fn each_distinct_term_is_one_row() {
     let rows = |text: &str| {
         let source = guardtext::read(&format!("{LISTS}{text}"));

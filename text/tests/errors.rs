@@ -26,8 +26,14 @@ fn marks_and_numbers() {
         "line 2, column 5: expected a name, a number or a mark, found `!`"
     );
     assert_eq!(
-        after("x.head = 2147483648"),
-        "line 4, column 10: expected a number from -2147483648 to 2147483647, found `2147483648`"
+        after("x.head = 9223372036854775808"),
+        "line 4, column 10: expected a number from -9223372036854775808 to 9223372036854775807, \
+         found `9223372036854775808`"
+    );
+    assert_eq!(
+        after("x.head = -9223372036854775809"),
+        "line 4, column 10: expected a number from -9223372036854775808 to 9223372036854775807, \
+         found `-9223372036854775809`"
     );
     assert_eq!(
         after("x.head = 3x"),

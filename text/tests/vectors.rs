@@ -66,3 +66,15 @@ fn a_fifth_byte_ends_a_number() {
     assert_eq!(question(&[0xff, 0xff, 0xff, 0xff, 0x1f]), 3);
     assert_eq!(question(&[0xff, 0xff, 0xff, 0xff, 0x0f]), 4);
 }
+
+#[test]
+fn a_tenth_byte_ends_a_value() {
+    let value = |bytes: &[u8]| decode(&[&[1, 0, 1, 1, 0], bytes, &[0]].concat());
+    let question = |bytes: &[u8]| value(bytes).expect_err("a refusal").why.question();
+    let cut = [&[1, 0, 1, 1, 0][..], &[0x80; 9]].concat();
+    assert_eq!(decode(&cut).expect_err("a refusal").why.question(), 2);
+    assert_eq!(question(&[0x80; 10]), 3);
+    assert_eq!(question(&[&[0xff; 9][..], &[0x02]].concat()), 3);
+    assert_eq!(question(&[&[0xff; 9][..], &[0x00]].concat()), 3);
+    assert!(value(&[&[0xff; 9][..], &[0x01]].concat()).is_ok());
+}

@@ -58,7 +58,7 @@ impl Type {
 #[derive(Clone, Copy, Debug)]
 pub enum Row {
     Variable,
-    Constant(i32),
+    Constant(i64),
     Built {
         variant: u8,
         parts: Few,

@@ -160,8 +160,10 @@ impl Store<'_> {
         self.many - 1
     }
 
-    fn number(&mut self, ty: u8, value: i32) -> usize {
-        self.row(0, [-1 - i32::from(ty), value, 0, 0])
+    /// A number as its low 32 bits and its high ones.
+    fn number(&mut self, ty: u8, value: i64) -> usize {
+        let (low, high) = (value as i32, (value >> 32) as i32);
+        self.row(0, [-1 - i32::from(ty), low, high, 0])
     }
 
     /// A variant, as 16 times the type plus its number, over the rows of its parts.
@@ -174,13 +176,13 @@ impl Store<'_> {
 /// Numbers that no constant has, upwards from 1.
 struct Fresh<'a> {
     constants: &'a [Constant],
-    last: i32,
+    last: i64,
 }
 
 impl Fresh<'_> {
-    fn next(&mut self) -> i32 {
+    fn next(&mut self) -> i64 {
         let constants = self.constants.iter();
-        let taken = |&number: &i32| {
+        let taken = |&number: &i64| {
             let mut constants = constants.clone().filter(|constant| constant.sort != 0);
             !constants.any(|constant| constant.value == number)
         };

@@ -39,7 +39,7 @@ pub struct Constant {
     pub term: Term,
     /// One more than the type; 0 in an empty slot.
     pub sort: u8,
-    pub value: i32,
+    pub value: i64,
 }
 
 pub struct Problem<'g> {
@@ -161,7 +161,7 @@ impl<'g> Problem<'g> {
     }
 }
 
-fn constant(term: Term, ty: u8, value: i32) -> Constant {
+fn constant(term: Term, ty: u8, value: i64) -> Constant {
     Constant {
         term,
         sort: 1 + ty,

@@ -112,23 +112,33 @@ struct Reader<'a> {
 }
 
 impl Reader<'_> {
-    fn number(&mut self) -> Result<u32, Question> {
+    /// A number of at most so many bytes and `most`.
+    fn number(&mut self, bytes: usize, most: u64) -> Result<u64, Question> {
         let mut value = 0;
-        for (i, &byte) in self.rest.iter().take(5).enumerate() {
-            value |= u64::from(byte & 0x7f) << (7 * i);
+        for (i, &byte) in self.rest.iter().take(bytes).enumerate() {
+            let group = u64::from(byte & 0x7f);
+            value |= group << (7 * i);
             if byte < 0x80 {
                 self.rest = &self.rest[i + 1..];
-                Question::NumberForm.ask(i == 0 || byte != 0)?;
-                return value.try_into().map_err(|_| Question::NumberForm);
+                // A tenth group has more bits than are left.
+                let lost = value >> (7 * i) != group;
+                let form = (i == 0 || byte != 0) && !lost && value <= most;
+                Question::NumberForm.ask(form)?;
+                return Ok(value);
             }
         }
-        Question::NumberEnds.ask(self.rest.len() >= 5)?;
+        Question::NumberEnds.ask(self.rest.len() >= bytes)?;
         Err(Question::NumberForm)
+    }
+
+    /// The value of a constant.
+    fn value(&mut self) -> Result<i64, Question> {
+        Ok(unfold(self.number(10, u64::MAX)?))
     }
 
     /// A number below `bound`; any other gets a no to `question`.
     fn below(&mut self, bound: usize, question: Question) -> Result<u8, Question> {
-        let value = self.number()?;
+        let value = self.number(5, u32::MAX.into())?;
         question.ask((value as usize) < bound)?;
         Ok(value as u8)
     }
@@ -196,7 +206,7 @@ impl Reader<'_> {
             0 => Ok((Row::Variable, self.name(guard.types.len())?)),
             1 => {
                 let ty = self.ty(guard, true)?;
-                Ok((Row::Constant(unfold(self.number()?)), ty))
+                Ok((Row::Constant(self.value()?), ty))
             }
             2 => self.built(guard),
             _ => {
@@ -247,6 +257,6 @@ impl Reader<'_> {
 }
 
 /// A signed value: 2 × v for 0 or more, −2 × v − 1 for a negative v.
-fn unfold(number: u32) -> i32 {
-    (number >> 1) as i32 ^ -((number & 1) as i32)
+fn unfold(number: u64) -> i64 {
+    (number >> 1) as i64 ^ -((number & 1) as i64)
 }

@@ -229,7 +229,7 @@ mod tests {
     }
 
     /// As the library, then a change after one verdict.
-    fn after(verdict: u32, change: fn(&mut [i32], &mut [i32], &mut [u32])) -> impl Desk {
+    fn after(verdict: u32, change: impl Fn(&mut [i32], &mut [i32], &mut [u32])) -> impl Desk {
         Decide(
             move |file: &[u8], budget, rows: &mut [i32], places: &mut [i32], answer: &mut [u32]| {
                 let code = decide_into(file, budget, rows, places, answer);
@@ -247,16 +247,22 @@ mod tests {
     }
 
     #[test]
-    fn the_end_of_a_fifth_byte() {
+    fn the_end_of_a_number() {
+        // A count ends at its fifth byte with bit 80, a value at its tenth.
+        let value = |byte: u8, many: usize| [&[1, 0, 1, 1, 0], &vec![byte; many][..]].concat();
         for (file, question) in [
-            (&[0x80; 4][..], Question::NumberEnds),
-            (&[0x80; 5], Question::NumberForm),
-            (&[0xff; 6], Question::NumberForm),
+            (vec![0x80; 4], Question::NumberEnds),
+            (vec![0x80; 5], Question::NumberForm),
+            (vec![0xff; 6], Question::NumberForm),
+            (value(0x80, 5), Question::NumberEnds),
+            (value(0xff, 9), Question::NumberEnds),
+            (value(0x80, 10), Question::NumberForm),
+            (value(0xff, 11), Question::NumberForm),
         ] {
             let mut counts = Counts::default();
             let mut comparer = Comparer::new(Library, 1, &Maker::default());
             comparer
-                .compare(&mut Random::new(1), file, &mut counts)
+                .compare(&mut Random::new(1), &file, &mut counts)
                 .expect("no mismatch");
             let question = usize::from(question.number()) - 1;
             assert_eq!(counts.files.refused[question], 1, "{file:x?}");
@@ -310,12 +316,23 @@ mod tests {
 
     #[test]
     fn a_wrong_message_is_found() {
-        let number = |rows: &mut [i32], _: &mut [i32], _: &mut [u32]| {
-            if rows[0] < 0 {
-                rows[1] ^= 1;
-            }
-        };
-        assert_found(after(raw::SAT, number), "");
+        // Each number of a number's row; the third as if values had 32 bits.
+        let wrongs: [fn(&mut [i32]); 4] = [
+            |row| row[1] ^= 1,
+            |row| row[2] ^= 1,
+            |row| row[2] = row[1] >> 31,
+            |row| row[3] = 1,
+        ];
+        for wrong in wrongs {
+            let numbers = move |rows: &mut [i32], _: &mut [i32], answer: &mut [u32]| {
+                for row in rows.chunks_exact_mut(4).take(answer[2] as usize) {
+                    if row[0] < 0 {
+                        wrong(row);
+                    }
+                }
+            };
+            assert_found(after(raw::SAT, numbers), "");
+        }
         let place = |_: &mut [i32], places: &mut [i32], answer: &mut [u32]| {
             if answer[2] > 1 {
                 places[0] = (places[0] + 1) % answer[2] as i32;
@@ -341,7 +358,10 @@ mod tests {
             }
         }
         assert_found(
-            after(raw::SAT, |rows, _, _| mark_last(rows)),
+            after(
+                raw::SAT,
+                |rows: &mut [i32], _: &mut [i32], _: &mut [u32]| mark_last(rows),
+            ),
             "past the last row",
         );
         // No guard has so many terms.

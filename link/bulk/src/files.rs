@@ -2,9 +2,9 @@
 
 use oracle::encode::{bytes, Draft, Role};
 use oracle::guard::Limits;
-use oracle::random::{draft, edge_value, Profile, Random, Types};
+use oracle::random::{draft, edge_value, far_value, Profile, Random, Types};
 use oracle::read::Question;
-use oracle::vectors::{broken, profiles};
+use oracle::vectors::{broken, far, profiles};
 
 /// What makes the files.
 pub struct Maker {
@@ -37,19 +37,21 @@ enum Kind {
     Bytes,
     /// A file aimed at one question.
     Question(Question),
+    /// The same, aimed at a value beyond 32 bits.
+    Value(Question),
     Types,
-    /// Four or five bytes with bit 80 set in place of a number.
-    FifthByte,
+    /// Four to eleven bytes with bit 80 set in place of a number.
+    NoEnd,
 }
 
 /// The kinds with their weights.
-const KINDS: [(usize, Kind); 19] = [
+const KINDS: [(usize, Kind); 21] = [
     (120, Kind::Usual),
     (160, Kind::Thinned),
     (12, Kind::Long),
     (20, Kind::Reads),
     (80, Kind::Any),
-    (20, Kind::Values),
+    (40, Kind::Values),
     (60, Kind::Changed),
     (16, Kind::Cut),
     (16, Kind::Extended),
@@ -61,14 +63,16 @@ const KINDS: [(usize, Kind); 19] = [
     (8, Kind::Question(Question::KindListed)),
     (12, Kind::Question(Question::TypeFits)),
     (4, Kind::Question(Question::NumberEnds)),
+    (4, Kind::Value(Question::NumberEnds)),
+    (8, Kind::Value(Question::NumberForm)),
     (16, Kind::Types),
-    (8, Kind::FifthByte),
+    (12, Kind::NoEnd),
 ];
 
 impl Default for Maker {
     fn default() -> Maker {
         Maker {
-            usual: profiles::all(),
+            usual: [profiles::all(), far::profiles()].concat(),
             long: profiles::long(),
             reads: reads(),
         }
@@ -109,8 +113,9 @@ impl Maker {
                 (0..length).map(|_| random.below(bound) as u8).collect()
             }
             Kind::Question(question) => broken::damage(random, question),
+            Kind::Value(question) => far::damage(random, question),
             Kind::Types => broken::bad_types(random),
-            Kind::FifthByte => fifth_byte(random),
+            Kind::NoEnd => no_end(random),
         }
     }
 }
@@ -174,16 +179,25 @@ fn any(random: &mut Random) -> Profile {
         row_kinds: weights(random),
         line_kinds: weights(random),
         deep: random.below(100),
-        values: (0..1 + random.below(4))
-            .map(|_| edge_value(random))
-            .collect(),
+        values: (0..1 + random.below(4)).map(|_| value(random)).collect(),
     }
 }
 
-/// A guard whose constants are random, many of them alike.
+/// A value of 64 bits: near the end of a length, or any.
+fn value(random: &mut Random) -> i64 {
+    match random.below(5) {
+        0 | 1 => edge_value(random),
+        2 | 3 => far_value(random),
+        _ => random.bits() as i64,
+    }
+}
+
+/// A guard whose constants are random, many of them alike or alike in one half.
 fn values(random: &mut Random) -> Vec<u8> {
     let mut tokens = broken::whole(random).tokens(Limits::BASE);
-    let pool = [edge_value(random), edge_value(random), 0];
+    let some = value(random);
+    let (other_high, other_low) = (some ^ 1 << (32 + random.below(32)), some ^ 1);
+    let pool = [some, value(random), 0, other_high, other_low];
     for token in &mut tokens {
         if token.role == Role::Value {
             token.number = oracle::number::fold(pool[random.below(pool.len())]);
@@ -200,7 +214,7 @@ fn changed(random: &mut Random) -> Vec<u8> {
     let how = random.below(CHANGES + 1);
     if how == CHANGES {
         let at = random.below(tokens.len());
-        tokens[at].number = random.below(25) as u32;
+        tokens[at].number = random.below(25) as u64;
         return bytes(&tokens);
     }
     change_at(random, &mut file, at, how);
@@ -232,12 +246,16 @@ pub fn change(random: &mut Random, bytes: &mut Vec<u8>) {
     change_at(random, bytes, at, how);
 }
 
-/// An accepted file up to some number, then four or five bytes with bit 80 set. It ends there, or goes on.
-fn fifth_byte(random: &mut Random) -> Vec<u8> {
+/// An accepted file up to some number, often a value, then four to eleven bytes with bit 80 set. It ends there, or goes on.
+fn no_end(random: &mut Random) -> Vec<u8> {
     let tokens = broken::whole(random).tokens(Limits::BASE);
-    let at = random.below(tokens.len());
+    let of_value = |&at: &usize| tokens[at].role == Role::Value;
+    let values: Vec<usize> = (0..tokens.len()).filter(of_value).collect();
+    let any = random.below(tokens.len());
+    let value = random.pick(&values).filter(|_| random.percent(50));
+    let at = value.unwrap_or(any);
     let mut file = bytes(&tokens[..at]);
-    let length = if random.percent(75) { 5 } else { 4 };
+    let length = [4, 5, 5, 9, 10, 10, 11][random.below(7)];
     let plain = random.percent(50);
     for _ in 0..length {
         let low = if plain { 0 } else { random.below(0x80) as u8 };

@@ -242,7 +242,7 @@ mod tests {
         // Questions that the checker and the writer don't ask.
         let never: [(Numbered, &[usize]); 2] = [
             (counts.checked, &[1, 11, 14]),
-            (counts.written, &[1, 11, 12, 13]),
+            (counts.written, &[1, 3, 11, 12, 13]),
         ];
         for (numbered, never) in never {
             for (answer, many) in numbered.0.into_iter().enumerate() {

@@ -208,7 +208,7 @@ mod tests {
             |list, out| write_into(list, out).abs(),
             |list, out| write_into(list, out).max(-11),
             |list, out| match write_into(list, out) {
-                -3 => -2,
+                -6 => -5,
                 code => code,
             },
         ];

@@ -3,7 +3,7 @@
 //!
 //! [`decide`], [`explain`], [`check`] and [`write()`] are safe functions over the proved library `libdesklink.a`. What that library
 //! gives is proved for every file, budget, record and list; what this crate makes of it (types, text) is tested. A guard file is at
-//! most 465 bytes long; its format is that of document 01.
+//! most 585 bytes long; its format is that of document 01, with values over 64 bits.
 //!
 //! ```
 //! use guarddesk::{decide, Answer, Names};

@@ -19,7 +19,7 @@ pub struct Messages {
 enum Row {
     Number {
         ty: u8,
-        value: i32,
+        value: i64,
     },
     /// `many` parts, each a lower row.
     Variant {
@@ -37,7 +37,8 @@ impl Messages {
         let row = |row: &[i32]| match row[0] {
             tag if tag < 0 => Row::Number {
                 ty: (-1 - tag) as u8,
-                value: row[1],
+                // The low 32 bits, and the value divided by 2^32.
+                value: i64::from(row[2]) << 32 | i64::from(row[1] as u32),
             },
             tag => Row::Variant {
                 ty: (tag / 16) as u8,
@@ -125,7 +126,7 @@ pub struct Message<'a> {
 #[derive(Clone, Debug)]
 pub enum Kind<'a> {
     /// A number.
-    Number(i32),
+    Number(i64),
     /// A variant, counted from 0 within its type, and a part for each of its fields.
     Variant(u8, Parts<'a>),
 }
@@ -307,7 +308,7 @@ mod tests {
 
     /// A list of so many numbers.
     fn list(many: i32) -> Messages {
-        let mut rows = vec![[-1, -3, 0, 0], [16, 0, 0, 0]];
+        let mut rows = vec![[-1, -3, -1, 0], [16, 0, 0, 0]];
         rows.extend((1..=many).map(|row| [17, 0, row, 0]));
         messages(&rows, many + 1)
     }
@@ -329,6 +330,27 @@ mod tests {
     fn text_of_rows() {
         let text = "row 0 type 0 number -3\nrow 1 type 1 variant 0\nrow 2 type 1 variant 1 parts 0 1\nterm 0 row 2\n";
         assert_eq!(list(1).to_string(), text);
+    }
+
+    #[test]
+    fn numbers_over_64_bits() {
+        for (low, high, value) in [
+            (0, 0, 0),
+            (-1, -1, -1),
+            (-1, 0, 4_294_967_295),
+            (0, 1, 4_294_967_296),
+            (0, -1, -4_294_967_296),
+            (-1, -2, -4_294_967_297),
+            (-1, i32::MAX, i64::MAX),
+            (0, i32::MIN, i64::MIN),
+        ] {
+            let shown = messages(&[[-1, low, high, 0]], 0);
+            let number = shown.term(0).unwrap();
+            assert!(matches!(number.kind(), Kind::Number(found) if found == value));
+            assert_eq!(number.to_string(), value.to_string());
+            let text = format!("row 0 type 0 number {value}\nterm 0 row 0\n");
+            assert_eq!(shown.to_string(), text);
+        }
     }
 
     #[test]

@@ -23,7 +23,7 @@ pub const ANSWER_LENGTH: usize = 3;
 pub const RECORD_BYTES_PER_NODE: usize = 3;
 
 /// How many bytes suffice for every guard file.
-pub const FILE_LENGTH: usize = 465;
+pub const FILE_LENGTH: usize = 585;
 
 /// The call was answered.
 pub const ANSWERED: u32 = 0;

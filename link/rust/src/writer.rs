@@ -11,7 +11,6 @@ impl fmt::Display for Refusal {
     fn fmt(&self, f: &mut fmt::Formatter<'_>) -> fmt::Result {
         let why = match self.0 {
             2 => "the list ends before the guard does",
-            3 => "a constant is beyond 32 bits",
             4 => "a count is outside its limits",
             5 => "something named is not there",
             6 => "a kind is none of those listed",
@@ -61,9 +60,16 @@ mod tests {
         let why = |numbers: &[i64]| write(numbers).unwrap_err().to_string();
         assert_eq!(why(&[7]), "question 4: a count is outside its limits");
         assert_eq!(why(&[-1]), "question 4: a count is outside its limits");
-        let beyond = [1, 0, 1, 1, 0, 1 << 31, 0];
-        assert_eq!(why(&beyond), "question 3: a constant is beyond 32 bits");
         let longer = "question 10: numbers follow the last line";
         assert_eq!(why(&[0, 0, 0, i64::MIN]), longer);
+    }
+
+    #[test]
+    fn constants_have_64_bits() {
+        for (value, first) in [(i64::MIN, 0xff), (i64::MAX, 0xfe)] {
+            let file = write(&[1, 0, 1, 1, 0, value, 0]).unwrap();
+            let bytes = [first, 0xff, 0xff, 0xff, 0xff, 0xff, 0xff, 0xff, 0xff, 1];
+            assert_eq!(file, [&[1, 0, 1, 1, 0][..], &bytes, &[0]].concat());
+        }
     }
 }

@@ -16,12 +16,14 @@ pub(super) fn add(set: &mut Set) {
     let mut random = Random::named("refused");
     // The questions that are asked at a number.
     for question in Question::ALL[1..7].iter().copied() {
-        fill(set, question, || damage(&mut random, question));
+        fill(set, "refused", question, || damage(&mut random, question));
     }
     for question in [Question::DefaultsExist, Question::FieldsCanGrow] {
-        fill(set, question, || bad_types(&mut random));
+        fill(set, "refused", question, || bad_types(&mut random));
     }
-    fill(set, Question::FileEnded, || too_long(&mut random));
+    fill(set, "refused", Question::FileEnded, || {
+        too_long(&mut random)
+    });
     limits(set);
     prefixes(set);
     chance(set);
@@ -29,7 +31,12 @@ pub(super) fn add(set: &mut Set) {
 
 /// Takes files from `make` until enough are refused as wanted. The budget
 /// doesn't matter then, so it varies.
-fn fill(set: &mut Set, question: Question, mut make: impl FnMut() -> Vec<u8>) {
+pub(super) fn fill(
+    set: &mut Set,
+    prefix: &str,
+    question: Question,
+    mut make: impl FnMut() -> Vec<u8>,
+) {
     let mut files: Vec<Vec<u8>> = Vec::new();
     while files.len() < EACH {
         let file = make();
@@ -40,7 +47,7 @@ fn fill(set: &mut Set, question: Question, mut make: impl FnMut() -> Vec<u8>) {
     }
     let budgets = [0, 1, USUAL_BUDGET, u32::MAX];
     for (i, file) in files.iter().enumerate() {
-        let name = format!("refused-{}-{i:03}", question.number());
+        let name = format!("{prefix}-{}-{i:03}", question.number());
         set.add(name, budgets[i % budgets.len()], file);
     }
 }
@@ -58,9 +65,9 @@ pub fn damage(random: &mut Random, question: Question) -> Vec<u8> {
     let at = random.below(tokens.len());
     let token = &mut tokens[at];
     let beyond = match random.below(4) {
-        0 => u32::MAX - 300,
+        0 => u64::from(u32::MAX) - 300,
         1 => 128,
-        _ => random.below(4) as u32,
+        _ => random.below(4) as u64,
     };
     match (question, token.role) {
         (Question::NumberEnds, _) => {
@@ -70,14 +77,14 @@ pub fn damage(random: &mut Random, question: Question) -> Vec<u8> {
         }
         (Question::NumberForm, _) => return respelled(random, &tokens, at),
         (Question::CountWithinLimits, Role::Count { limit }) => {
-            token.number = limit as u32 + 1 + beyond;
+            token.number = limit as u64 + 1 + beyond;
         }
         (Question::NamedThingExists, Role::Name { things } | Role::Typed { things }) => {
-            token.number = things as u32 + beyond;
+            token.number = things as u64 + beyond;
         }
         (Question::KindListed, Role::Kind) => token.number = 4 + beyond,
         (Question::TypeFits, Role::Typed { things }) => {
-            token.number = random.below(things) as u32;
+            token.number = random.below(things) as u64;
         }
         _ => {}
     }

@@ -302,7 +302,7 @@ fn unlike_heads(set: &mut Set) {
             ("zero", 0, 0),
             ("one", 1, 1),
             ("unlike", 1, 0),
-            ("ends", i32::MIN, i32::MAX),
+            ("ends", i64::from(i32::MIN), i64::from(i32::MAX)),
         ] {
             let mut draft = Draft::new(LISTS);
             let (x, y) = (draft.variable(1), draft.variable(1));
@@ -562,7 +562,7 @@ fn defaults(set: &mut Set) {
         let of = draft.row_types[read];
         match draft.types[of].variants.len() {
             0 => {
-                let value = draft.constant(of, random.below(2) as i32);
+                let value = draft.constant(of, random.below(2) as i64);
                 draft.equal(read, value);
             }
             many => draft.is(read, random.below(many)),
@@ -572,8 +572,9 @@ fn defaults(set: &mut Set) {
     }
 }
 
-/// The longest accepted file, and one with every count at its limit.
-fn largest(set: &mut Set) {
+/// As many bytes as any file with such values has: every count at its limit,
+/// and only constants.
+pub(super) fn longest(value: impl Fn(i64) -> i64) -> Draft {
     let wide = |variants: usize| Type {
         variants: vec![vec![0; 3]; variants],
     };
@@ -586,10 +587,17 @@ fn largest(set: &mut Set) {
         wide(8),
     ];
     let mut draft = Draft::with_types(types);
-    let terms: Vec<usize> = (0..24).map(|i| draft.constant(0, i32::MIN + i)).collect();
+    let terms: Vec<usize> = (0..24).map(|i| draft.constant(0, value(i))).collect();
     for line in 0..32 {
         draft.unequal(terms[line % 24], terms[(line * 5 + 1) % 24]);
     }
+    draft
+}
+
+/// The longest file with values of 32 bits, and one with every count at its
+/// limit.
+fn largest(set: &mut Set) {
+    let mut draft = longest(|i| i64::from(i32::MIN) + i);
     set.draft("longest-465", &draft);
     for line in &mut draft.lines[31..] {
         *line = crate::guard::Line::Equal(22, 23);

@@ -3,6 +3,7 @@
 pub mod broken;
 mod cases;
 mod families;
+pub mod far;
 pub mod lists;
 mod numbers;
 pub mod profiles;
@@ -13,6 +14,7 @@ use crate::answer::{answer, Answer};
 use crate::encode::Draft;
 use crate::guard::Limits;
 use crate::random::Random;
+use crate::read::read;
 use crate::text;
 
 /// The budget of the program `guarddesk`.
@@ -64,7 +66,16 @@ pub fn all() -> Vec<Vector> {
     families::add(&mut set);
     walks::add(&mut set);
     profiles::add(&mut set);
+    far::add(&mut set);
     set.0
+}
+
+/// Whether records and lists are drawn from a vector. Those of request #104
+/// came later: what was drawn before them stays as it is.
+fn is_drawn_from(vector: &Vector) -> bool {
+    let guard = read(&vector.file, Limits::BASE);
+    let far = guard.is_ok_and(|guard| far::is_far(&guard.rows));
+    !far && !vector.name.starts_with(far::PREFIX)
 }
 
 /// Draws from the named generator until there are so many different ones.

@@ -13,7 +13,7 @@ pub fn add(set: &mut Set) {
 fn spellings() -> Vec<Vec<u8>> {
     let mut spellings: Vec<Vec<u8>> = Vec::new();
     for bits in [0, 7, 14, 21, 28] {
-        for value in [(1u32 << bits).wrapping_sub(1), 1 << bits] {
+        for value in [(1u64 << bits) - 1, 1 << bits] {
             let mut bytes = Vec::new();
             number::write(value, &mut bytes);
             spellings.push(bytes);
@@ -70,11 +70,10 @@ fn forms(set: &mut Set) {
     }
 }
 
-/// Constants at both ends of 32 bits, equal and unequal to near ones.
-fn constants(set: &mut Set) {
-    let ends = [i32::MIN, i32::MIN + 1, -1, 0, 1, i32::MAX - 1, i32::MAX];
-    for (i, &a) in ends.iter().enumerate() {
-        for (j, &b) in ends.iter().enumerate().skip(i) {
+/// Every two of the values as constants, equal and unequal.
+pub(super) fn pairs(set: &mut Set, prefix: &str, values: &[i64]) {
+    for (i, &a) in values.iter().enumerate() {
+        for (j, &b) in values.iter().enumerate().skip(i) {
             for (name, unequal) in [("equal", false), ("unequal", true)] {
                 let mut draft = Draft::new(&[&[]]);
                 let (x, y) = (draft.constant(0, a), draft.constant(0, b));
@@ -83,13 +82,20 @@ fn constants(set: &mut Set) {
                 } else {
                     draft.equal(x, y);
                 }
-                set.draft(format!("ends-{name}-{i}-{j}"), &draft);
+                set.draft(format!("{prefix}-{name}-{i}-{j}"), &draft);
             }
         }
     }
+}
+
+/// Constants at both ends of 32 bits, equal and unequal to near ones.
+fn constants(set: &mut Set) {
+    let (least, most) = (i64::from(i32::MIN), i64::from(i32::MAX));
+    let ends = [least, least + 1, -1, 0, 1, most - 1, most];
+    pairs(set, "ends", &ends);
     // Every value near an end is taken, and the free numbers need others.
     let mut draft = Draft::new(&[&[], &[&[0]]]);
-    let values = [i32::MIN, i32::MAX, 0, 1, -1];
+    let values = [least, most, 0, 1, -1];
     let mut terms: Vec<usize> = values
         .iter()
         .map(|&value| draft.constant(0, value))

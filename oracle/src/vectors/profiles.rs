@@ -2,6 +2,7 @@
 
 use super::{families, Set, USUAL_BUDGET};
 use crate::answer::{answer, Answer};
+use crate::encode::Draft;
 use crate::guard::Limits;
 use crate::random::{self, Profile, Random, Types};
 use crate::types::Type;
@@ -32,7 +33,7 @@ fn base(name: &'static str, types: Types) -> Profile {
         row_kinds: [4, 1, 3, 5],
         line_kinds: [4, 4, 1, 2],
         deep: 30,
-        values: vec![0, 0, 1, -1, i32::MIN, i32::MAX],
+        values: vec![0, 0, 1, -1, i64::from(i32::MIN), i64::from(i32::MAX)],
     }
 }
 
@@ -177,27 +178,33 @@ fn class(answer: Answer) -> Option<usize> {
 
 pub(super) fn add(set: &mut Set) {
     for profile in all() {
-        let mut random = Random::named(profile.name);
-        let mut left = [EACH / 6, EACH / 6, EACH / 3, EACH / 3];
-        let mut kept = 0;
-        // Some profiles lack some kind of answer.
-        for _ in 0..3_000 {
-            let file = random::draft(&mut random, &profile).bytes();
-            let Some(class) = class(answer(&file, MOST_NODES, Limits::BASE)) else {
-                continue;
-            };
-            if left[class] > 0 {
-                left[class] -= 1;
-                set.add(
-                    format!("random-{}-{kept:03}", profile.name),
-                    USUAL_BUDGET,
-                    &file,
-                );
-                kept += 1;
-            }
-            if left == [0; 4] {
-                break;
-            }
+        let name = format!("random-{}", profile.name);
+        fill(set, &name, &profile, |_| true);
+    }
+}
+
+/// Fitting guards of a profile, some for each kind of answer.
+pub(super) fn fill(set: &mut Set, name: &str, profile: &Profile, fits: impl Fn(&Draft) -> bool) {
+    let mut random = Random::named(profile.name);
+    let mut left = [EACH / 6, EACH / 6, EACH / 3, EACH / 3];
+    let mut kept = 0;
+    // Some profiles lack some kind of answer.
+    for _ in 0..3_000 {
+        let draft = random::draft(&mut random, profile);
+        if !fits(&draft) {
+            continue;
+        }
+        let file = draft.bytes();
+        let Some(class) = class(answer(&file, MOST_NODES, Limits::BASE)) else {
+            continue;
+        };
+        if left[class] > 0 {
+            left[class] -= 1;
+            set.add(format!("{name}-{kept:03}"), USUAL_BUDGET, &file);
+            kept += 1;
+        }
+        if left == [0; 4] {
+            break;
         }
     }
 }

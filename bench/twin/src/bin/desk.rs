@@ -23,7 +23,8 @@ fn show(out: &mut impl Write, file: &[u8], rows: &[i32], places: &[i32]) -> io::
     let Ok(guard) = read(file) else { return Ok(()) };
     for (i, row) in rows.chunks_exact(4).enumerate() {
         if row[0] < 0 {
-            writeln!(out, "row {i} type {} number {}", -1 - row[0], row[1])?;
+            let value = i64::from(row[2]) << 32 | i64::from(row[1] as u32);
+            writeln!(out, "row {i} type {} number {value}", -1 - row[0])?;
             continue;
         }
         let (ty, variant) = (row[0] / 16, row[0] % 16);

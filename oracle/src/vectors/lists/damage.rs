@@ -4,7 +4,7 @@ use crate::encode::{Role, Token};
 use crate::guard::Limits;
 use crate::list::of_tokens;
 use crate::number;
-use crate::random::{edge_value, Random};
+use crate::random::Random;
 use crate::vectors::broken;
 
 /// A place whose number has such a role.
@@ -73,7 +73,7 @@ pub fn cut(random: &mut Random, tokens: &[Token]) -> Option<Vec<i64>> {
     Some(of_tokens(&tokens[..random.below(tokens.len())]))
 }
 
-/// A constant beyond 32 bits.
+/// A constant beyond 32 bits, and mostly something wrong behind it.
 pub fn far_value(random: &mut Random, tokens: &[Token]) -> Option<Vec<i64>> {
     let at = place(random, tokens, |role| role == Role::Value)?;
     let number = far(random);
@@ -161,13 +161,17 @@ pub fn noise(random: &mut Random, _: &[Token]) -> Option<Vec<i64>> {
     Some((0..length).map(&mut number).collect())
 }
 
-/// The numbers with constants near the ends of each length that they may have.
-pub fn other_value(random: &mut Random, tokens: &[Token]) -> Option<Vec<Token>> {
+/// The numbers with other constants.
+pub fn other_value(
+    random: &mut Random,
+    tokens: &[Token],
+    value: fn(&mut Random) -> i64,
+) -> Option<Vec<Token>> {
     place(random, tokens, |role| role == Role::Value)?;
     let mut tokens = tokens.to_vec();
     for token in &mut tokens {
         if token.role == Role::Value {
-            token.number = number::fold(edge_value(random));
+            token.number = number::fold(value(random));
         }
     }
     Some(tokens)

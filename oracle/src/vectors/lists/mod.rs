@@ -3,16 +3,20 @@
 
 mod damage;
 
-use super::{hex, unhex, Vector};
-use crate::encode::{Draft, Token};
+use super::{hex, is_drawn_from, unhex, Vector};
+use crate::encode::{self, Draft, Token};
 use crate::guard::Limits;
 use crate::list::{self, LONGEST_FILE};
-use crate::random::Random;
+use crate::random::{edge_value, far_value, Random};
 use crate::read::read;
 
 /// Of the accepted vectors each so many'th has its list kept, and each case of
 /// document 01.
 const KEPT: usize = 4;
+
+/// The usual length of the output buffer: the longest file with values of 32
+/// bits, as lists that were there before request #104 have it.
+const ROOM: usize = 465;
 
 const HEADER: &str = "\
 # Lists of numbers with the writer's answers, written by `oracle lists`.
@@ -61,10 +65,10 @@ impl Source {
     }
 }
 
-/// The accepted vectors, each file once.
-fn sources(vectors: &[Vector]) -> Vec<Source> {
+/// The accepted ones of these vectors, each file once.
+fn sources(vectors: &[&Vector]) -> Vec<Source> {
     let mut sources: Vec<Source> = Vec::new();
-    for source in vectors.iter().filter_map(Source::of) {
+    for source in vectors.iter().filter_map(|vector| Source::of(vector)) {
         if sources.iter().all(|other| other.file != source.file) {
             sources.push(source);
         }
@@ -82,17 +86,20 @@ enum Answers {
     Settled(u8),
     /// Only those with this refusal are taken.
     Taken(u8),
+    /// Settled until request #104: "the writer's 3 no longer occurs". Since then
+    /// what follows decides.
+    Formerly,
     Any,
 }
 
-use Answers::{Any, Settled, Taken};
+use Answers::{Any, Formerly, Settled, Taken};
 
 /// A family of lists: its name, how many, and their answers.
 type Family = (&'static str, usize, Answers, Make);
 
 const FAMILIES: [Family; 12] = [
     ("cut", 60, Settled(2), damage::cut),
-    ("far-value", 60, Settled(3), damage::far_value),
+    ("far-value", 60, Formerly, damage::far_value),
     ("wrong-count", 60, Settled(4), damage::wrong_count),
     ("wrong-name", 60, Settled(5), damage::wrong_name),
     ("wrong-kind", 40, Settled(6), damage::wrong_kind),
@@ -113,20 +120,22 @@ pub fn damaged(random: &mut Random, tokens: &[Token]) -> Option<Vec<i64>> {
 
 /// All lists, sorted by name, or why they can't be made from these vectors.
 pub fn all(vectors: &[Vector]) -> Result<Vec<Written>, String> {
-    let sources = sources(vectors);
+    let (drawn, later): (Vec<_>, Vec<_>) = vectors.iter().partition(|v| is_drawn_from(v));
+    let (sources, later) = (sources(&drawn), sources(&later));
     let mut set = Set::default();
     set.whole(&sources)?;
     set.values(&sources)?;
+    set.far(&sources, &later)?;
     for (name, many, answers, make) in FAMILIES {
         set.fill(name, many, |random| {
             let source = one_of(random, &sources)?;
             let list = make(random, &source.tokens)?;
             let settled = match answers {
                 Settled(question) => Some(Err(question)),
-                Taken(question) if answer(&list, LONGEST_FILE) != Err(question) => return None,
-                Taken(_) | Any => None,
+                Taken(question) if answer(&list, ROOM) != Err(question) => return None,
+                Taken(_) | Formerly | Any => None,
             };
-            Some((list, LONGEST_FILE, settled))
+            Some((list, ROOM, settled))
         })?;
     }
     set.outputs(&sources)?;
@@ -180,14 +189,14 @@ impl Set {
     /// The lists of accepted vectors, in buffers that fit exactly and others.
     fn whole(&mut self, sources: &[Source]) -> Result<(), String> {
         for (i, source) in sources.iter().enumerate() {
-            let long = source.file.len() == LONGEST_FILE;
+            let long = source.file.len() == ROOM;
             if i % KEPT != 0 && !long && !source.name.starts_with("case-") {
                 continue;
             }
             let room = match i / KEPT % 3 {
                 0 => source.file.len(),
-                1 => LONGEST_FILE,
-                _ => LONGEST_FILE + i,
+                1 => ROOM,
+                _ => ROOM + i,
             };
             let new = (source.list(), room, Some(Ok(source.file.clone())));
             self.add(format!("of-{}", source.name), new)?;
@@ -199,10 +208,35 @@ impl Set {
     fn values(&mut self, sources: &[Source]) -> Result<(), String> {
         self.fill("value", 60, |random| {
             let source = one_of(random, sources)?;
-            let tokens = damage::other_value(random, &source.tokens)?;
-            let file = crate::encode::bytes(&tokens);
+            let tokens = damage::other_value(random, &source.tokens, edge_value)?;
+            let file = encode::bytes(&tokens);
             Some((list::of_tokens(&tokens), file.len(), Some(Ok(file))))
         })
+    }
+
+    /// Request #104: the lists of its vectors, values near the ends of each
+    /// length beyond 32 bits, and output buffers that lack a byte of theirs.
+    fn far(&mut self, sources: &[Source], later: &[Source]) -> Result<(), String> {
+        for (i, source) in later.iter().enumerate() {
+            let room = match i % 3 {
+                0 => source.file.len(),
+                1 => LONGEST_FILE,
+                _ => LONGEST_FILE + i,
+            };
+            let new = (source.list(), room, Some(Ok(source.file.clone())));
+            self.add(format!("of-{}", source.name), new)?;
+        }
+        for (name, many, short) in [("far-constant", 60, 0), ("far-short-output", 20, 1)] {
+            self.fill(name, many, |random| {
+                let source = one_of(random, sources)?;
+                let tokens = damage::other_value(random, &source.tokens, far_value)?;
+                let file = encode::bytes(&tokens);
+                let room = file.len() - short;
+                let settled = if short == 0 { Ok(file) } else { Err(14) };
+                Some((list::of_tokens(&tokens), room, Some(settled)))
+            })?;
+        }
+        Ok(())
     }
 
     /// Output buffers that are too short, also for lists that are refused
@@ -217,11 +251,13 @@ impl Set {
         self.fill("refused-short-output", 36, |random| {
             let source = one_of(random, sources)?;
             let (_, _, answers, make) = FAMILIES[random.below(FAMILIES.len())];
-            let Settled(question) = answers else {
-                return None;
+            let settled = match answers {
+                Settled(question) => Some(Err(question)),
+                Formerly => None,
+                Taken(_) | Any => return None,
             };
             let list = make(random, &source.tokens)?;
-            Some((list, random.below(3), Some(Err(question))))
+            Some((list, random.below(3), settled))
         })
     }
 }

@@ -63,7 +63,7 @@ pub fn no_kind(random: &mut Random, source: &Source) -> Option<Vec<u8>> {
         _ => random.below(u32::MAX as usize - SPLIT),
     };
     let mut bytes = Vec::new();
-    number::write((SPLIT + 1 + beyond) as u32, &mut bytes);
+    number::write((SPLIT + 1 + beyond) as u64, &mut bytes);
     bytes.extend(&entry[1..]);
     Some(source.with(node, &bytes))
 }

@@ -6,7 +6,7 @@ mod others;
 mod source;
 
 use self::source::{pick, Source};
-use super::{hex, unhex, Vector};
+use super::{hex, is_drawn_from, unhex, Vector};
 use crate::guard::Limits;
 use crate::random::Random;
 use crate::read::Question;
@@ -78,12 +78,16 @@ const OPEN: [Family; 2] = [
 pub fn all(vectors: &[Vector]) -> Result<Vec<Checked>, String> {
     let spent = |vector: &&Vector| vector.answer.starts_with("SPENT ");
     let decided = vectors.iter().filter(|vector| !spent(vector));
-    let sources: Vec<Source> = decided.filter_map(Source::of).collect();
+    let (drawn, later): (Vec<&Vector>, Vec<_>) = decided.partition(|vector| is_drawn_from(vector));
+    let sources: Vec<Source> = drawn.into_iter().filter_map(Source::of).collect();
+    let later: Vec<Source> = later.into_iter().filter_map(Source::of).collect();
     let (closed, open): (Vec<_>, Vec<_>) = sources.iter().partition(|source| source.closed);
     let mut set = Set::default();
-    for source in &closed {
-        let name = format!("written-{}", source.name);
-        set.add(name, &source.file, source.record(), Some(0))?;
+    for source in closed.iter().copied().chain(&later) {
+        if source.closed {
+            let name = format!("written-{}", source.name);
+            set.add(name, &source.file, source.record(), Some(0))?;
+        }
     }
     set.families(&CLOSED, &closed)?;
     set.families(&OPEN, &open)?;
@@ -162,7 +166,10 @@ impl Set {
         for question in &Question::ALL[1..] {
             let number = question.number();
             let answer = format!("REFUSED {number}");
-            let refused: Vec<&Vector> = vectors.iter().filter(|v| v.answer == answer).collect();
+            let refused: Vec<&Vector> = vectors
+                .iter()
+                .filter(|vector| vector.answer == answer && is_drawn_from(vector))
+                .collect();
             let name = format!("refused-{number:02}");
             self.fill(&name, EACH_QUESTION, Some(number), |random| {
                 let file = random.pick(&refused)?.file.clone();
