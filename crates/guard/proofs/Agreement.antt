@@ -22,7 +22,7 @@ use Rattle.laws.proofs.Stores.{ends}
 use Rattle.guard.specs.Closure.{Fact, Fact.same, Fact.within, SameAt, State, add, buildsAt, classOf, closureOf, consequences, eqZ, given, holds, labelOf, merge, mergeUnless, readBuild, sameClass}
 use Rattle.guard.specs.Guard.{Literal, Literal.equal, Literal.is, Literal.isnt, Literal.unequal}
 use Rattle.guard.specs.Limits.{variantLimit}
-use Rattle.guard.specs.Node.{Split, broken, emptyLabel, firstKind, insideItself, isClosed, onRead, onTerm, partsOf, reached, secondKind, splitOf, unlikeConstants, variantsLeft}
+use Rattle.guard.specs.Node.{Kind, Split, broken, emptyLabel, firstKind, insideItself, isClosed, kindOf, onRead, onTerm, partsOf, reached, secondKind, splitOf, unlikeConstants, variantsLeft}
 use Rattle.guard.specs.Search.{labelTotal}
 use Rattle.guard.specs.Terms.{Build, Read, Table, Term, asBuild, fieldless, termCount}
 use Rattle.guard.specs.Types.{isNumber, variantsOf}
@@ -167,10 +167,11 @@ module _ (t : Table) (ranged : InRange t) (s s′ : State) (agree : Agrees s s�
   left-agrees x m =
       ap (λ (l : ℕ). filter (λ v. not (eqb (bit l v) 0)) (from (length (variantsOf (t .types) (x .type))) 0)) (agree .label (x .term) (ranged .terms x m .0))
 
+  first-at : (r : Read) → List·Memᴰ r (t .reads) → firstKind s r ≡ firstKind s′ r
+  first-at r m = ap (λ (l : ℕ). not (eqb (bit l (r .variant)) 0) && not (eqb l (2 ^ (r .variant)))) (agree .label (r .term) (ranged .reads r m .1))
+
   first-agrees : find (firstKind s) (t .reads) ≡ find (firstKind s′) (t .reads)
-  first-agrees =
-      find-cong (firstKind s) (firstKind s′) (t .reads)
-      (λ r m. ap (λ (l : ℕ). not (eqb (bit l (r .variant)) 0) && not (eqb l (2 ^ (r .variant)))) (agree .label (r .term) (ranged .reads r m .1)))
+  first-agrees = find-cong (firstKind s) (firstKind s′) (t .reads) first-at
 
   second-agrees : find (secondKind t s) (t .terms) ≡ find (secondKind t s′) (t .terms)
   second-agrees =
@@ -190,6 +191,10 @@ module _ (t : Table) (ranged : InRange t) (s s′ : State) (agree : Agrees s s�
       go none (some x) e =
           ap (λ (vs : List ℕ). some (record { term = x .term; variant = getD vs 0 0 })) (left-agrees x (find-some (secondKind t s′) (t .terms) x e .0))
       go none none e = refl
+
+  pub kind-agrees : kindOf t s ≡ kindOf t s′
+  unfolding kindOf
+  kind-agrees = ap (λ (b : Bool). cond b Kind.first Kind.second) (any-cong (firstKind s) (firstKind s′) (t .reads) first-at)
 
   -- ---- the reasons to close
   same-agrees : (i j : ℕ) → i < termCount → j < termCount → sameClass s i j ≡ sameClass s′ i j

@@ -6,34 +6,40 @@ use mathlib.Core.List.{List}
 use Prim.Native.Nat.{ℕ, _≤_, _<_}
 use native.Mathlib.Omega.{arith}
 use lib.Dec.{leb}
+use lib.ListN.{take}
+use lib.Seq.{length-take-le}
 use borrow.Author.Tests.{leb-true, leb-false, le-leb, lt-leb}
 use mathlib.Core.Logic.{_↔_}
 use Rattle.laws.proofs.Bools.{and-both, by-test}
-use Rattle.guard.specs.Answer.{Outcome, Outcome.refusal, Outcome.spent, afterBuffers, afterQuestions, outcome, questions, verdict, withBudget}
+use Rattle.guard.specs.Answer.{Outcome, Outcome.refusal, Outcome.spent, afterBuffers, afterQuestions, cutOff, outcome, questions, verdict, withBudget}
 use Rattle.guard.specs.File.{file}
 use Rattle.guard.specs.Guard.{Guard}
 use Rattle.guard.specs.Limits.{Limits, placeBuffer, rowBuffer}
 use Rattle.guard.specs.Number.{Parsed.accepted, Parsed.refused}
-use Rattle.guard.specs.Search.{Visits, Visits.closed, Visits.opened, nodeCount, searchOf, visits}
+use Rattle.guard.specs.Search.{Counts, Visits, Visits.closed, Visits.opened, countsOf, nodeCount, searchOf, visited, visits}
 
 pub enough : (budget : ℕ) (w : Visits) → visits w ≤ budget → withBudget budget w ≡ verdict w
 enough budget w h = simp (le-leb (visits w) budget h)
 
-pub too-few : (budget : ℕ) (w : Visits) → budget < visits w → withBudget budget w ≡ spent budget
+pub too-few : (budget : ℕ) (w : Visits) → budget < visits w → withBudget budget w ≡ cutOff budget w
 too-few budget w h = simp (lt-leb (visits w) budget h)
 
 module _ (budget : ℕ) (w : Visits) where
-  verdict-not-spent : (w : Visits) (b : ℕ) → ¬ (verdict w ≡ spent b)
+  verdict-not-spent : (w : Visits) (c : Counts) → ¬ (verdict w ≡ spent c)
   verdict-not-spent (opened n) b e = let z : _≡_ {A = ℕ} 0 1 = cc in omega arith
   verdict-not-spent (closed n) b e = let z : _≡_ {A = ℕ} 0 1 = cc in omega arith
 
-  pub spent-exactly : ((b : ℕ) × (withBudget budget w ≡ spent b)) ↔ (budget < visits w)
+  pub spent-exactly : ((c : Counts) × (withBudget budget w ≡ spent c)) ↔ (budget < visits w)
   spent-exactly = (
     λ p. by-test (leb (visits w) budget) (λ e. absurd (verdict-not-spent w (p .0) (sym (enough budget w (leb-true (visits w) budget e)) ∙ p .1))) (λ e. leb-false (visits w) budget e),
-    λ h. (budget, too-few budget w h),
+    λ h. (countsOf (take budget (visited w)), too-few budget w h),
   )
 
--- every larger budget brings the same verdict and count
+-- "SPENT carries the budget."
+pub cut-nodes : (budget : ℕ) (w : Visits) → budget < visits w → countsOf (take budget (visited w)) .nodes ≡ budget
+cut-nodes budget w h = length-take-le budget (visited w) (omega arith)
+
+-- every larger budget brings the same verdict and counts
 pub larger-budget : (budget larger : ℕ) (w : Visits) → visits w ≤ budget → budget ≤ larger → withBudget larger w ≡ withBudget budget w
 larger-budget budget larger w h l = enough larger w (omega arith) ∙ sym (enough budget w h)
 
@@ -62,9 +68,9 @@ module _ (limits : Limits) (bytes : List ℕ) (rowLength placeLength : ℕ) (row
     accepted-answer budget = answer-after budget ∙ ap (afterQuestions budget) taken
 
     -- "SPENT is given precisely if the walk would visit more nodes than the budget."
-    pub spent-below-count : (budget : ℕ) → ((b : ℕ) × (answer budget ≡ spent b)) ↔ (budget < nodeCount g)
+    pub spent-below-count : (budget : ℕ) → ((c : Counts) × (answer budget ≡ spent c)) ↔ (budget < nodeCount g)
     spent-below-count budget =
-        (λ p. spent-exactly budget (searchOf g) .0 (p .0, sym (accepted-answer budget) ∙ p .1), λ h. (budget, accepted-answer budget ∙ too-few budget (searchOf g) h))
+        (λ p. spent-exactly budget (searchOf g) .0 (p .0, sym (accepted-answer budget) ∙ p .1), λ h. (countsOf (take budget (visited (searchOf g))), accepted-answer budget ∙ too-few budget (searchOf g) h))
 
     pub verdict-from-count : (budget : ℕ) → nodeCount g ≤ budget → answer budget ≡ verdict (searchOf g)
     verdict-from-count budget h = accepted-answer budget ∙ enough budget (searchOf g) h

@@ -3,30 +3,37 @@ use mathlib.Core.Bool.{Bool, true, false, _&&_, cond}
 use mathlib.Core.List.{List}
 use Prim.Native.Nat.{ℕ}
 use lib.Dec.{leb}
+use lib.ListN.{take}
 use Rattle.guard.specs.Limits.{Limits, rowBuffer, placeBuffer}
 use Rattle.guard.specs.Guard.{Guard}
 use Rattle.guard.specs.Number.{Parsed, Parsed.refused, Parsed.accepted}
 use Rattle.guard.specs.File.{file}
-use Rattle.guard.specs.Search.{Visits, Visits.opened, Visits.closed, visits, searchOf}
+use Rattle.guard.specs.Search.{Counts, Visits, Visits.opened, Visits.closed, countsOf, visited, visits, searchOf}
 use Rattle.guard.specs.declared.Answer.{Answer}
 use Rattle.guard.specs.declared.Answer.the-variants.{Refused, Sat, Unsat, Spent}
 
 -- "Out: REFUSED with a number; or SAT with the node count and the number of rows; or UNSAT with the node count; or SPENT
--- with the budget as node count." The number of rows is free, so it is not part of what is defined.
+-- with the budget as node count." Document 02, #105: "SAT, UNSAT and SPENT each carry the counts of first-kind and of
+-- second-kind splits". The number of rows is free, so it is not part of what is defined.
 pub data Outcome : Type 0 where
   refusal : ℕ → Outcome
-  sat : ℕ → Outcome
-  unsat : ℕ → Outcome
-  spent : ℕ → Outcome
+  sat : Counts → Outcome
+  unsat : Counts → Outcome
+  spent : Counts → Outcome
 
 -- "Open means SAT; all closed means UNSAT."
 abbrev pub verdict : Visits → Outcome
-verdict (opened n) = sat n
-verdict (closed n) = unsat n
+verdict (opened xs) = sat (countsOf xs)
+verdict (closed xs) = unsat (countsOf xs)
+
+-- "SPENT carries the budget." Its splits are those at the nodes within the budget, "those whose children the budget cut off
+-- included".
+abbrev pub cutOff : ℕ → Visits → Outcome
+cutOff budget w = spent (countsOf (take budget (visited w)))
 
 -- "SPENT is given precisely if the walk would visit more nodes than the budget."
 abbrev pub withBudget : ℕ → Visits → Outcome
-withBudget budget w = cond (leb (visits w) budget) (verdict w) (spent budget)
+withBudget budget w = cond (leb (visits w) budget) (verdict w) (cutOff budget w)
 
 -- question 1: "Are both buffers long enough? If no: 1. After it the file is read from its first byte."
 abbrev pub afterBuffers : Bool → Limits → List ℕ → Parsed Guard
@@ -51,13 +58,13 @@ outcome limits bytes budget rowLength placeLength = afterQuestions budget (quest
 -- "a definition sets out this paper's number and values for each of its cases"
 unfoldable pub outcomeOf : Answer → Outcome
 outcomeOf (Refused q) = refusal q
-outcomeOf (Sat n r) = sat n
-outcomeOf (Unsat n) = unsat n
-outcomeOf (Spent b) = spent b
+outcomeOf (Sat n f s r) = sat (record { nodes = n; first = f; second = s })
+outcomeOf (Unsat n f s) = unsat (record { nodes = n; first = f; second = s })
+outcomeOf (Spent b f s) = spent (record { nodes = b; first = f; second = s })
 
 -- the number of rows shown; none but after SAT
 unfoldable pub rowsOf : Answer → ℕ
 rowsOf (Refused q) = 0
-rowsOf (Sat n r) = r
-rowsOf (Unsat n) = 0
-rowsOf (Spent b) = 0
+rowsOf (Sat n f s r) = r
+rowsOf (Unsat n f s) = 0
+rowsOf (Spent b f s) = 0

@@ -7,8 +7,8 @@ use Rattle.guard.specs.Limits.{base, rowBuffer, placeBuffer}
 use Rattle.guard.specs.File.{file}
 use Rattle.guard.specs.Terms.{tableOf}
 use Rattle.guard.specs.Closure.{closureOf, initial, saturate, consequences}
-use Rattle.guard.specs.Node.{isClosed, splitOf}
-use Rattle.guard.specs.Search.{searchTo, search, searchOf}
+use Rattle.guard.specs.Node.{isClosed, kindOf, splitOf}
+use Rattle.guard.specs.Search.{Counts, searchTo, search, searchOf}
 use Rattle.guard.specs.Answer.{Outcome, Outcome.sat, Outcome.unsat, Outcome.spent, outcome, questions}
 
 pub record Case : Type 0 where
@@ -42,22 +42,26 @@ fileH =
 abbrev pub fileJ : List ℕ
 fileJ = 0x01 ∷ 0x00 ∷ 0x02 ∷ 0x01 ∷ 0x00 ∷ 0x05 ∷ 0x01 ∷ 0x00 ∷ 0x08 ∷ 0x01 ∷ 0x00 ∷ 0x00 ∷ 0x01 ∷ []
 
+-- nodes, and splits of the first and of the second kind, as document 02 adds them (#105)
+abbrev pub counts : ℕ → ℕ → ℕ → Counts
+counts nodes one two = record { nodes = nodes; first = one; second = two }
+
 -- cases a to j, in order
 abbrev pub cases : List Case
 cases =
-    record { bytes = fileA; budget = 1; expected = sat 1 }
-    ∷ record { bytes = fileA; budget = 0; expected = spent 0 }
-    ∷ record { bytes = fileC; budget = 3; expected = sat 3 }
-    ∷ record { bytes = fileC; budget = 2; expected = spent 2 }
-    ∷ record { bytes = fileE; budget = 1; expected = unsat 1 }
-    ∷ record { bytes = fileF; budget = 1; expected = sat 1 }
-    ∷ record { bytes = fileG; budget = 1; expected = unsat 1 }
-    ∷ record { bytes = fileH; budget = 11; expected = unsat 11 }
-    ∷ record { bytes = fileH; budget = 10; expected = spent 10 }
-    ∷ record { bytes = fileJ; budget = 1; expected = unsat 1 }
+    record { bytes = fileA; budget = 1; expected = sat (counts 1 0 0) }
+    ∷ record { bytes = fileA; budget = 0; expected = spent (counts 0 0 0) }
+    ∷ record { bytes = fileC; budget = 3; expected = sat (counts 3 1 0) }
+    ∷ record { bytes = fileC; budget = 2; expected = spent (counts 2 1 0) }
+    ∷ record { bytes = fileE; budget = 1; expected = unsat (counts 1 0 0) }
+    ∷ record { bytes = fileF; budget = 1; expected = sat (counts 1 0 0) }
+    ∷ record { bytes = fileG; budget = 1; expected = unsat (counts 1 0 0) }
+    ∷ record { bytes = fileH; budget = 11; expected = unsat (counts 11 0 5) }
+    ∷ record { bytes = fileH; budget = 10; expected = spent (counts 10 0 5) }
+    ∷ record { bytes = fileJ; budget = 1; expected = unsat (counts 1 0 0) }
     ∷ []
 
 -- with buffers just long enough, each case gets the answer that the document gives
 pub right : map (λ c. outcome base (c .bytes) (c .budget) (rowBuffer base) (placeBuffer base)) cases ≡ map (λ c. c .expected) cases
-unfolding outcome questions file searchOf search searchTo tableOf closureOf initial saturate consequences isClosed splitOf ones onesIn
+unfolding outcome questions file searchOf search searchTo tableOf closureOf initial saturate consequences isClosed splitOf kindOf ones onesIn
 right = refl

@@ -86,3 +86,12 @@ unfoldable pub splitOf : Table → State → Option Split
 splitOf t s =
     elim (find (firstKind s) (t .reads))
     [ some r ↦ some (onRead r) | none ↦ elim (find (secondKind t s) (t .terms)) [ some x ↦ some (onTerm t s x) | none ↦ none ] ]
+
+-- "First kind: .." "Otherwise second kind: .."
+pub data Kind : Type 0 where
+  first : Kind
+  second : Kind
+
+-- the kind of the split, where there is one
+unfoldable pub kindOf : Table → State → Kind
+kindOf t s = cond (any (firstKind s) (t .reads)) first second

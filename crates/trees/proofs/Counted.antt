@@ -13,8 +13,8 @@ use Rattle.laws.proofs.Lists.{find-none, find-some, none-some}
 use Rattle.guard.specs.Closure.{State}
 use Rattle.guard.specs.Guard.{Guard, Literal, Literal.is, Literal.isnt}
 use Rattle.guard.specs.Limits.{Limits, Supported}
-use Rattle.guard.specs.Node.{Split, firstKind, onRead, onTerm, secondKind, splitOf}
-use Rattle.guard.specs.Search.{Visits, Visits.closed, Visits.opened, W, children, labelTotal, nodeCount, search, searchOf, searchTo, visits}
+use Rattle.guard.specs.Node.{Split, firstKind, kindOf, onRead, onTerm, secondKind, splitOf}
+use Rattle.guard.specs.Search.{Visit, Visit.split, Visits, Visits.closed, Visits.opened, W, children, labelTotal, nodeCount, search, searchOf, searchTo, visits}
 use Rattle.guard.specs.Terms.{Read, Term, tableOf}
 use Rattle.guard.specs.WellFormed.{WellFormed}
 use Rattle.guard.proofs.ClosureBelow.{LiteralsInRange}
@@ -35,38 +35,38 @@ visits-nodes g ds (branch d yes′ no′) =
     go (visit g (is (d .term) (d .variant) ∷ ds) yes′) (visit g (isnt (d .term) (d .variant) ∷ ds) no′) (visits-nodes g (is (d .term) (d .variant) ∷ ds) yes′)
     (visits-nodes g (isnt (d .term) (d .variant) ∷ ds) no′)
   where
-    go : (a b : Visits) → visits a ≤ nodes yes′ → visits b ≤ nodes no′ → visits (children a (λ u. b)) ≤ nodes (branch d yes′ no′)
+    go : (a b : Visits) → visits a ≤ nodes yes′ → visits b ≤ nodes no′ → visits (children (kindOf (tableOf g) (stateAt g ds)) a (λ u. b)) ≤ nodes (branch d yes′ no′)
     go (opened n) b h k = omega arith
-    go (closed n) b h k = omega (arith, plus-visits (1 + n) b)
+    go (closed n) b h k = omega (arith, plus-visits (split (kindOf (tableOf g) (stateAt g ds)) ∷ n) b)
 
 -- a visit that ends open has found an open leaf
-pub visit-opened : (g : Guard) (ds : List Literal) (tree : Tree) (n : ℕ) → Finished g ds tree → visit g ds tree ≡ opened n → HasOpenLeaf g ds tree
-visit-opened g ds leaf n (inl c) e = let z : closed 1 ≡ opened n = ap leafVisit (sym c) ∙ e in let y : _≡_ {A = ℕ} 0 1 = cc in absurd (omega arith)
+pub visit-opened : (g : Guard) (ds : List Literal) (tree : Tree) (n : List Visit) → Finished g ds tree → visit g ds tree ≡ opened n → HasOpenLeaf g ds tree
+visit-opened g ds leaf n (inl c) e = let z : closed (Visit.leaf ∷ []) ≡ opened n = ap leafVisit (sym c) ∙ e in let y : _≡_ {A = ℕ} 0 1 = cc in absurd (omega arith)
 visit-opened g ds leaf n (inr o) e = o
 visit-opened g ds (branch d yes′ no′) n f e =
     go (visit g (is (d .term) (d .variant) ∷ ds) yes′) (visit g (isnt (d .term) (d .variant) ∷ ds) no′) (λ m. visit-opened g (is (d .term) (d .variant) ∷ ds) yes′ m (f .2))
     (λ m. visit-opened g (isnt (d .term) (d .variant) ∷ ds) no′ m (f .3)) refl refl e
   where
     go : (a b : Visits)
-        → ((m : ℕ) → visit g (is (d .term) (d .variant) ∷ ds) yes′ ≡ opened m → HasOpenLeaf g (is (d .term) (d .variant) ∷ ds) yes′)
-        → ((m : ℕ) → visit g (isnt (d .term) (d .variant) ∷ ds) no′ ≡ opened m → HasOpenLeaf g (isnt (d .term) (d .variant) ∷ ds) no′)
-        → visit g (is (d .term) (d .variant) ∷ ds) yes′ ≡ a → visit g (isnt (d .term) (d .variant) ∷ ds) no′ ≡ b → children a (λ u. b) ≡ opened n
+        → ((m : List Visit) → visit g (is (d .term) (d .variant) ∷ ds) yes′ ≡ opened m → HasOpenLeaf g (is (d .term) (d .variant) ∷ ds) yes′)
+        → ((m : List Visit) → visit g (isnt (d .term) (d .variant) ∷ ds) no′ ≡ opened m → HasOpenLeaf g (isnt (d .term) (d .variant) ∷ ds) no′)
+        → visit g (is (d .term) (d .variant) ∷ ds) yes′ ≡ a → visit g (isnt (d .term) (d .variant) ∷ ds) no′ ≡ b → children (kindOf (tableOf g) (stateAt g ds)) a (λ u. b) ≡ opened n
         → HasOpenLeaf g ds (branch d yes′ no′)
     go (opened m) b hy hn p q r = inl (hy m p)
     go (closed m) (opened k) hy hn p q r = inr (hn k q)
     go (closed m) (closed k) hy hn p q r = let y : _≡_ {A = ℕ} 0 1 = cc in absurd (omega arith)
 
 -- a visit that ends closed has met no open leaf
-pub visit-closed : (g : Guard) (ds : List Literal) (tree : Tree) (n : ℕ) → visit g ds tree ≡ closed n → ¬ HasOpenLeaf g ds tree
-visit-closed g ds leaf n e o = let z : opened 1 ≡ closed n = ap leafVisit (sym (o .0)) ∙ e in let y : _≡_ {A = ℕ} 0 1 = cc in omega arith
+pub visit-closed : (g : Guard) (ds : List Literal) (tree : Tree) (n : List Visit) → visit g ds tree ≡ closed n → ¬ HasOpenLeaf g ds tree
+visit-closed g ds leaf n e o = let z : opened (Visit.leaf ∷ []) ≡ closed n = ap leafVisit (sym (o .0)) ∙ e in let y : _≡_ {A = ℕ} 0 1 = cc in omega arith
 visit-closed g ds (branch d yes′ no′) n e o =
     go (visit g (is (d .term) (d .variant) ∷ ds) yes′) (visit g (isnt (d .term) (d .variant) ∷ ds) no′) (visit-closed g (is (d .term) (d .variant) ∷ ds) yes′)
     (visit-closed g (isnt (d .term) (d .variant) ∷ ds) no′) refl refl e o
   where
     go : (a b : Visits)
-        → ((m : ℕ) → visit g (is (d .term) (d .variant) ∷ ds) yes′ ≡ closed m → ¬ HasOpenLeaf g (is (d .term) (d .variant) ∷ ds) yes′)
-        → ((m : ℕ) → visit g (isnt (d .term) (d .variant) ∷ ds) no′ ≡ closed m → ¬ HasOpenLeaf g (isnt (d .term) (d .variant) ∷ ds) no′)
-        → visit g (is (d .term) (d .variant) ∷ ds) yes′ ≡ a → visit g (isnt (d .term) (d .variant) ∷ ds) no′ ≡ b → children a (λ u. b) ≡ closed n
+        → ((m : List Visit) → visit g (is (d .term) (d .variant) ∷ ds) yes′ ≡ closed m → ¬ HasOpenLeaf g (is (d .term) (d .variant) ∷ ds) yes′)
+        → ((m : List Visit) → visit g (isnt (d .term) (d .variant) ∷ ds) no′ ≡ closed m → ¬ HasOpenLeaf g (isnt (d .term) (d .variant) ∷ ds) no′)
+        → visit g (is (d .term) (d .variant) ∷ ds) yes′ ≡ a → visit g (isnt (d .term) (d .variant) ∷ ds) no′ ≡ b → children (kindOf (tableOf g) (stateAt g ds)) a (λ u. b) ≡ closed n
         → ¬ HasOpenLeaf g ds (branch d yes′ no′)
     go (opened m) b hy hn p q r o = let y : _≡_ {A = ℕ} 0 1 = cc in omega arith
     go (closed m) (opened k) hy hn p q r o = let y : _≡_ {A = ℕ} 0 1 = cc in omega arith
@@ -154,7 +154,7 @@ module _ (limits : Limits) (sup : Supported limits) (g : Guard) (ok : WellFormed
           let no′ : Counts k (isnt (d .term) (d .variant) ∷ ds) = ih (isnt (d .term) (d .variant)) (cons-in-range (isnt (d .term) (d .variant)) ds small r) (omega (arith, isnt-falls (tableOf g) (range limits sup g ok) (literalsAt g ds) nr d sp)) in
           record {
             finished = rw (e, q) (e, defined-permitted ds r d q, yes′ .finished, no′ .finished);
-            visited = rw (e, q) (ap₂ (λ (x y : Visits). children x (λ u. y)) (yes′ .visited) (no′ .visited));
+            visited = rw (e, q) (ap₂ (λ (x y : Visits). children (kindOf (tableOf g) (stateAt g ds)) x (λ u. y)) (yes′ .visited) (no′ .visited));
           }
 
   -- the tree of the counted search is finished, and its visit is the search

@@ -1,14 +1,14 @@
 -- Search trees of a guard in which each node splits as it likes, within what is permitted. Assumes nothing.
 use mathlib.Core.Path.{_≡_}
 use mathlib.Core.Bool.{Bool, true, false}
-use mathlib.Core.List.{List, _∷_, _++_, List·Memᴰ}
+use mathlib.Core.List.{List, [], _∷_, _++_, List·Memᴰ}
 use mathlib.Core.Logic.{_⊎_}
 use Prim.Native.Nat.{ℕ, _+_}
 use Rattle.guard.specs.Guard.{Literal, Literal.is, Literal.isnt, Guard}
 use Rattle.guard.specs.Terms.{Term, Read, tableOf}
 use Rattle.guard.specs.Closure.{State, closureOf}
-use Rattle.guard.specs.Node.{isClosed, Split, firstKind, secondKind, variantsLeft, onRead}
-use Rattle.guard.specs.Search.{Visits, Visits.opened, Visits.closed, children, choices}
+use Rattle.guard.specs.Node.{isClosed, Split, firstKind, kindOf, secondKind, variantsLeft, onRead}
+use Rattle.guard.specs.Search.{Visit, Visits, Visits.opened, Visits.closed, children, choices}
 
 pub data Tree : Type 0 where
   leaf : Tree
@@ -51,11 +51,11 @@ abbrev pub nodes : Tree → ℕ
 nodes leaf = 1
 nodes (branch d yes′ no′) = 1 + (nodes yes′ + nodes no′)
 
--- the depth-first visit, "is" first, up to the first open leaf
+-- the depth-first visit, "is" first, up to the first open leaf; a split is taken for one of the kind that the defined search makes
 abbrev pub leafVisit : Bool → Visits
-leafVisit true = closed 1
-leafVisit false = opened 1
+leafVisit true = closed (Visit.leaf ∷ [])
+leafVisit false = opened (Visit.leaf ∷ [])
 
 abbrev pub visit : Guard → List Literal → Tree → Visits
 visit g ds leaf = leafVisit (closedAt g ds)
-visit g ds (branch d yes′ no′) = children (visit g (is (d .term) (d .variant) ∷ ds) yes′) (λ u. visit g (isnt (d .term) (d .variant) ∷ ds) no′)
+visit g ds (branch d yes′ no′) = children (kindOf (tableOf g) (stateAt g ds)) (visit g (is (d .term) (d .variant) ∷ ds) yes′) (λ u. visit g (isnt (d .term) (d .variant) ∷ ds) no′)
