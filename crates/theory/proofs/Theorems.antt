@@ -1,21 +1,23 @@
 -- The theorems about accepted files, for any limits up to 6 types, 24 terms and 64 lines. Each rests on the crates below:
 -- `soundness` (a closed node has no model), `models` (an open one has), `trees` (any order of splitting). Assumes nothing.
-use mathlib.Core.Path.{_≡_, refl, _∙_, ap}
+use mathlib.Core.Path.{_≡_, refl, _∙_, ap, subst}
 use mathlib.Core.List.{List, []}
-use Prim.Native.Nat.{ℕ, _*_, _≤_, _-_}
+use Prim.Native.Nat.{ℕ, _+_, _*_, _≤_, _-_}
 use native.Mathlib.Omega.{arith}
 use mathlib.Core.Logic.{_↔_}
 use mathlib.Core.Bool.{Bool, true, false, cond, _&&_}
 use lib.Dec.{leb}
-use Rattle.guard.specs.Answer.{Outcome, Outcome.refusal, Outcome.sat, Outcome.spent, Outcome.unsat, afterBuffers, afterQuestions, outcome, questions, verdict}
+use lib.ListN.{take}
+use Rattle.guard.specs.Answer.{Outcome, Outcome.refusal, Outcome.sat, Outcome.spent, Outcome.unsat, afterBuffers, afterQuestions, cutOff, outcome, questions, verdict}
 use Rattle.guard.specs.File.{file}
 use Rattle.guard.specs.Guard.{Guard}
 use Rattle.guard.specs.Limits.{Limits, Supported, base, placeBuffer, rowBuffer}
 use Rattle.guard.specs.Meaning.{Satisfiable}
 use Rattle.guard.specs.Number.{Parsed, Parsed.accepted, Parsed.refused}
-use Rattle.guard.specs.Search.{Visits, Visits.closed, Visits.opened, W, nodeCount, searchOf, visits}
+use Rattle.guard.specs.Search.{Counts, Visit, Visits, Visits.closed, Visits.opened, W, countsOf, nodeCount, searchOf, visited}
 use Rattle.guard.specs.WellFormed.{WellFormed}
 use Rattle.guard.proofs.AnswerLaws.{verdict-from-count}
+use Rattle.guard.proofs.SearchLaws.{closed-twice}
 use Rattle.guard.proofs.Claims.{Accepts, accepts-all, well-formed}
 use Rattle.models.proofs.OpenModel.{FewRows, rowBound}
 use Rattle.theory.proofs.OpenLeaf.{open-messages}
@@ -39,24 +41,24 @@ module _ (limits : Limits) (bytes : List ℕ) (g : Guard) (a : Accepts limits by
   any-order-bound = tree-bound limits (a .supported) g ok
 
   -- The counted search ends open exactly if some messages of the right types make every line true.
-  pub opened-satisfiable : (n : ℕ) → searchOf g ≡ opened n → FewRows g (rowBound limits)
-  opened-satisfiable n e =
-      open-messages limits (a .supported) g ok (countedTree g) finished (visit-opened g [] (countedTree g) n finished (counted-visit limits (a .supported) g ok ∙ e))
+  pub opened-satisfiable : (xs : List Visit) → searchOf g ≡ opened xs → FewRows g (rowBound limits)
+  opened-satisfiable xs e =
+      open-messages limits (a .supported) g ok (countedTree g) finished (visit-opened g [] (countedTree g) xs finished (counted-visit limits (a .supported) g ok ∙ e))
     where
       finished : Finished g [] (countedTree g)
       finished = counted-finished limits (a .supported) g ok
 
-  pub closed-unsatisfiable : (n : ℕ) → searchOf g ≡ closed n → ¬ Satisfiable g
-  closed-unsatisfiable n e s =
-      visit-closed g [] (countedTree g) n (counted-visit limits (a .supported) g ok ∙ e)
+  pub closed-unsatisfiable : (xs : List Visit) → searchOf g ≡ closed xs → ¬ Satisfiable g
+  closed-unsatisfiable xs e s =
+      visit-closed g [] (countedTree g) xs (counted-visit limits (a .supported) g ok ∙ e)
       (satisfiable-open limits (a .supported) g ok (countedTree g) (counted-finished limits (a .supported) g ok) s)
 
-  pub open-exactly : ((n : ℕ) × (searchOf g ≡ opened n)) ↔ Satisfiable g
+  pub open-exactly : ((xs : List Visit) × (searchOf g ≡ opened xs)) ↔ Satisfiable g
   open-exactly = (λ p. let m = opened-satisfiable (p .0) (p .1) in record { assignment = m .assignment; holds = m .holds }, λ s. go (searchOf g) refl s)
     where
-      go : (w : Visits) → searchOf g ≡ w → Satisfiable g → (n : ℕ) × (searchOf g ≡ opened n)
-      go (opened n) e s = (n, e)
-      go (closed n) e s = absurd (closed-unsatisfiable n e s)
+      go : (w : Visits) → searchOf g ≡ w → Satisfiable g → (xs : List Visit) × (searchOf g ≡ opened xs)
+      go (opened xs) e s = (xs, e)
+      go (closed xs) e s = absurd (closed-unsatisfiable xs e s)
 
   -- The search visits at most 2 × W − 1 nodes, so a budget of that many always brings a verdict.
   pub count-at-most : nodeCount g ≤ 2 * W g - 1
@@ -68,55 +70,65 @@ module _ (limits : Limits) (bytes : List ℕ) (g : Guard) (a : Accepts limits by
 
 -- ---- answers
 
--- the same from a verdict: the file is accepted, the count is its node count, and the verdict is true
-pub record Verdict (limits : Limits) (bytes : List ℕ) (n : ℕ) (P : Guard → Type 0) : Type 0 where
+-- the same from a verdict: the file is accepted, the counts are those of its search, and the verdict is true
+pub record Verdict (limits : Limits) (bytes : List ℕ) (c : Counts) (P : Guard → Type 0) : Type 0 where
   pub guard : Guard
   pub accepts : Accepts limits bytes guard
-  pub count : nodeCount guard ≡ n
+  pub counts : countsOf (visited (searchOf guard)) ≡ c
   pub holds : P guard
 
-module _ (limits : Limits) (sup : Supported limits) (bytes : List ℕ) (budget rowLength placeLength n : ℕ) where
+module _ (limits : Limits) (sup : Supported limits) (bytes : List ℕ) (budget rowLength placeLength : ℕ) (c : Counts) where
   -- an accepted call is one of an accepted file
   file-accepts : (b : Bool) (g : Guard) (rest : List ℕ) → afterBuffers b limits bytes ≡ accepted g rest → file limits bytes ≡ accepted g rest
   file-accepts true g rest e = e
   file-accepts false g rest e = let z : _≡_ {A = ℕ} 0 1 = cc in absurd (omega arith)
 
   -- from an answer that is neither a refusal nor SPENT to the end of the search
-  from-search : (P : Guard → Type 0) (want : Outcome) → ((q : ℕ) → ¬ (refusal q ≡ want)) → ((b : ℕ) → ¬ (spent b ≡ want))
-      → ((g : Guard) → Accepts limits bytes g → verdict (searchOf g) ≡ want → (nodeCount g ≡ n) × P g) → outcome limits bytes budget rowLength placeLength ≡ want → Verdict limits bytes n P
+  from-search : (P : Guard → Type 0) (want : Outcome) → ((q : ℕ) → ¬ (refusal q ≡ want)) → ((b : Counts) → ¬ (spent b ≡ want))
+      → ((g : Guard) → Accepts limits bytes g → verdict (searchOf g) ≡ want → (countsOf (visited (searchOf g)) ≡ c) × P g) → outcome limits bytes budget rowLength placeLength ≡ want → Verdict limits bytes c P
   unfolding outcome questions
   from-search P want not-refused not-spent f e = go (afterBuffers (leb (rowBuffer limits) rowLength && leb (placeBuffer limits) placeLength) limits bytes) refl e
     where
-      within : (b : Bool) (w : Visits) → cond b (verdict w) (spent budget) ≡ want → verdict w ≡ want
+      within : (b : Bool) (w : Visits) → cond b (verdict w) (cutOff budget w) ≡ want → verdict w ≡ want
       within true w h = h
-      within false w h = absurd (not-spent budget h)
+      within false w h = absurd (not-spent (countsOf (take budget (visited w))) h)
 
-      go : (p : Parsed Guard) → afterBuffers (leb (rowBuffer limits) rowLength && leb (placeBuffer limits) placeLength) limits bytes ≡ p → afterQuestions budget p ≡ want → Verdict limits bytes n P
+      go : (p : Parsed Guard) → afterBuffers (leb (rowBuffer limits) rowLength && leb (placeBuffer limits) placeLength) limits bytes ≡ p → afterQuestions budget p ≡ want → Verdict limits bytes c P
       go (refused q) r h = absurd (not-refused q h)
       go (accepted g rest) r h =
           let a : Accepts limits bytes g = accepts-all limits bytes g rest sup (file-accepts (leb (rowBuffer limits) rowLength && leb (placeBuffer limits) placeLength) g rest r) in
-          let (c, p) = f g a (within (leb (nodeCount g) budget) (searchOf g) h) in
-          record { guard = g; accepts = a; count = c; holds = p }
+          let (k, p) = f g a (within (leb (nodeCount g) budget) (searchOf g) h) in
+          record { guard = g; accepts = a; counts = k; holds = p }
 
   -- "SAT comes with finite messages that make every line true", in few rows
-  pub sat-true : outcome limits bytes budget rowLength placeLength ≡ sat n → Verdict limits bytes n (λ g. FewRows g (rowBound limits))
+  pub sat-true : outcome limits bytes budget rowLength placeLength ≡ sat c → Verdict limits bytes c (λ g. FewRows g (rowBound limits))
   sat-true =
-      from-search (λ g. FewRows g (rowBound limits)) (sat n) (λ q e. let z : _≡_ {A = ℕ} 0 1 = cc in omega arith) (λ b e. let z : _≡_ {A = ℕ} 0 1 = cc in omega arith)
-      (λ g a e. let q = opened-by (searchOf g) e in (ap visits q, opened-satisfiable limits bytes g a n q))
+      from-search (λ g. FewRows g (rowBound limits)) (sat c) (λ q e. let z : _≡_ {A = ℕ} 0 1 = cc in omega arith) (λ b e. let z : _≡_ {A = ℕ} 0 1 = cc in omega arith)
+      (λ g a e. let (xs, q, k) = opened-by (searchOf g) e in (ap (λ (w : Visits). countsOf (visited w)) q ∙ k, opened-satisfiable limits bytes g a xs q))
     where
-      opened-by : (w : Visits) → verdict w ≡ sat n → w ≡ opened n
-      opened-by (opened m) e = cc
-      opened-by (closed m) e = let z : _≡_ {A = ℕ} 0 1 = cc in absurd (omega arith)
+      opened-by : (w : Visits) → verdict w ≡ sat c → (xs : List Visit) × (w ≡ opened xs) × (countsOf xs ≡ c)
+      opened-by (opened xs) e = (xs, refl, cc)
+      opened-by (closed xs) e = let z : _≡_ {A = ℕ} 0 1 = cc in absurd (omega arith)
+
+  closed-by : (w : Visits) → verdict w ≡ unsat c → (xs : List Visit) × (w ≡ closed xs) × (countsOf xs ≡ c)
+  closed-by (closed xs) e = (xs, refl, cc)
+  closed-by (opened xs) e = let z : _≡_ {A = ℕ} 0 1 = cc in absurd (omega arith)
 
   -- "UNSAT is said only where none do"
-  pub unsat-true : outcome limits bytes budget rowLength placeLength ≡ unsat n → Verdict limits bytes n (λ g. ¬ Satisfiable g)
+  pub unsat-true : outcome limits bytes budget rowLength placeLength ≡ unsat c → Verdict limits bytes c (λ g. ¬ Satisfiable g)
   unsat-true =
-      from-search (λ g. ¬ Satisfiable g) (unsat n) (λ q e. let z : _≡_ {A = ℕ} 0 1 = cc in omega arith) (λ b e. let z : _≡_ {A = ℕ} 0 1 = cc in omega arith)
-      (λ g a e. let q = closed-by (searchOf g) e in (ap visits q, closed-unsatisfiable limits bytes g a n q))
-    where
-      closed-by : (w : Visits) → verdict w ≡ unsat n → w ≡ closed n
-      closed-by (closed m) e = cc
-      closed-by (opened m) e = let z : _≡_ {A = ℕ} 0 1 = cc in absurd (omega arith)
+      from-search (λ g. ¬ Satisfiable g) (unsat c) (λ q e. let z : _≡_ {A = ℕ} 0 1 = cc in omega arith) (λ b e. let z : _≡_ {A = ℕ} 0 1 = cc in omega arith)
+      (λ g a e. let (xs, q, k) = closed-by (searchOf g) e in (ap (λ (w : Visits). countsOf (visited w)) q ∙ k, closed-unsatisfiable limits bytes g a xs q))
+
+  -- document 02, #105: "For UNSAT, nodes are twice the two counts together and one more."
+  pub unsat-twice : outcome limits bytes budget rowLength placeLength ≡ unsat c → c .nodes ≡ 2 * (c .first + c .second) + 1
+  unsat-twice e =
+      let v = from-search (λ g. c .nodes ≡ 2 * (c .first + c .second) + 1) (unsat c) (λ q e. let z : _≡_ {A = ℕ} 0 1 = cc in omega arith) (λ b e. let z : _≡_ {A = ℕ} 0 1 = cc in omega arith)
+      (λ g a e. let (xs, q, k) = closed-by (searchOf g) e in (
+        ap (λ (w : Visits). countsOf (visited w)) q ∙ k,
+        subst (λ (d : Counts). d .nodes ≡ 2 * (d .first + d .second) + 1) k (closed-twice g xs q),
+      )) e in
+      v .holds
 
 -- ---- rows
 
