@@ -88,7 +88,7 @@ node-count-pos g = search-pos (tableOf g) (g .literals)
 
 -- ---- splits
 
-splits-append : (k : Kind) (xs ys : List Visit) → splitsIn k (xs ++ ys) ≡ splitsIn k xs + splitsIn k ys
+pub splits-append : (k : Kind) (xs ys : List Visit) → splitsIn k (xs ++ ys) ≡ splitsIn k xs + splitsIn k ys
 splits-append k [] ys = omega arith
 splits-append k (x ∷ xs) ys = omega (arith, splits-append k xs ys)
 

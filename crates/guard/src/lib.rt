@@ -2,7 +2,9 @@
 
 // The answer of a call. `specs/Answer.antt` sets out the document's number and values for each case.
 pub enum Answer {
-    Refused { question: u32 },
+    Refused {
+        question: u32,
+    },
     Sat {
         nodes: u32,
         first_splits: u32,

@@ -1,64 +1,77 @@
 -- "SPENT is given precisely if the walk would visit more nodes than the budget", and otherwise the nodes used are the
 -- node count. Assumes nothing.
 use mathlib.Core.Path.{_≡_, refl, ap, sym, _∙_}
+use mathlib.Core.List.{List}
 use mathlib.Core.Logic.{_⊎_, inl, inr}
-use Prim.Native.Nat.{ℕ, _-_, _≤_, _<_}
+use Prim.Native.Nat.{ℕ, _+_, _-_, _≤_, _<_}
 use native.Mathlib.Omega.{arith}
+use lib.ListN.{take}
+use lib.Seq.{take-all}
 use Rattle.guard.specs.Guard.{Guard}
-use Rattle.guard.specs.Search.{Visits, Visits.closed, Visits.opened, nodeCount, searchOf, visits}
+use Rattle.guard.specs.Node.{Kind.first, Kind.second}
+use Rattle.guard.specs.Search.{Visit, Visits, Visits.closed, Visits.opened, nodeCount, searchOf, splitsIn, visited, visits}
 use Rattle.search.specs.declared.Outcome.{Outcome}
-use Rattle.search.specs.Outcome.{outcome}
-use Rattle.search.proofs.OutcomeLaws.{closed-left, either, none-left, open-left}
+use Rattle.search.specs.declared.Tally.{Tally}
+use Rattle.search.specs.Outcome.{after, begin, outcome}
+use Rattle.search.proofs.OutcomeLaws.{either, enough-left, too-few-left}
 
--- what the outcome says of the visits
-module _ (left : ℕ) where
-  spent-is : (w : Visits) → outcome w left ≡ Outcome.Spent → left < visits w
-  spent-is (opened n) e = go (either n left)
-    where
-      go : (n ≤ left) ⊎ (left < n) → left < n
-      go (inl h) = let q : Outcome.Open (left - n) ≡ Outcome.Spent = sym (open-left n left h) ∙ e in let z : _≡_ {A = ℕ} 0 1 = cc in absurd (omega arith)
-      go (inr h) = h
-  spent-is (closed n) e = go (either n left)
-    where
-      go : (n ≤ left) ⊎ (left < n) → left < n
-      go (inl h) = let q : Outcome.Closed (left - n) ≡ Outcome.Spent = sym (closed-left n left h) ∙ e in let z : _≡_ {A = ℕ} 0 1 = cc in absurd (omega arith)
-      go (inr h) = h
+-- how a search ended, and what it has left and has made, where all its visits were within the budget
+pub record Within (budget : ℕ) (xs : List Visit) (t : Tally) : Type 0 where
+  pub enough : visits (closed xs) ≤ budget
+  pub left : t .left ≡ budget - visits (closed xs)
+  pub first : t .first ≡ splitsIn first xs
+  pub second : t .second ≡ splitsIn second xs
 
-  open-is : (w : Visits) (m : ℕ) → outcome w left ≡ Outcome.Open m → (w ≡ opened (visits w)) × (visits w ≤ left) × (m ≡ left - visits w)
-  open-is (opened n) m e = go (either n left)
-    where
-      go : (n ≤ left) ⊎ (left < n) → (opened n ≡ opened n) × (n ≤ left) × (m ≡ left - n)
-      go (inl h) = let q : Outcome.Open (left - n) ≡ Outcome.Open m = sym (open-left n left h) ∙ e in (refl, h, cc)
-      go (inr h) = let q : Outcome.Spent ≡ Outcome.Open m = sym (none-left (opened n) left h) ∙ e in let z : _≡_ {A = ℕ} 0 1 = cc in absurd (omega arith)
-  open-is (closed n) m e = go (either n left)
-    where
-      go : (n ≤ left) ⊎ (left < n) → (closed n ≡ opened n) × (n ≤ left) × (m ≡ left - n)
-      go (inl h) = let q : Outcome.Closed (left - n) ≡ Outcome.Open m = sym (closed-left n left h) ∙ e in let z : _≡_ {A = ℕ} 0 1 = cc in absurd (omega arith)
-      go (inr h) = let q : Outcome.Spent ≡ Outcome.Open m = sym (none-left (closed n) left h) ∙ e in let z : _≡_ {A = ℕ} 0 1 = cc in absurd (omega arith)
+module _ (budget : ℕ) where
+  within : (xs : List Visit) (t : Tally) → visits (closed xs) ≤ budget → after xs (begin budget) ≡ t → Within budget xs t
+  within xs t h e =
+      let all : take budget xs ≡ xs = take-all budget xs h in
+      record {
+        enough = h;
+        left = sym (ap (λ (u : Tally). u .left) e);
+        first = sym (ap (λ (u : Tally). u .first) e) ∙ ap (λ (l : List Visit). 0 + splitsIn first l) all ∙ omega arith;
+        second = sym (ap (λ (u : Tally). u .second) e) ∙ ap (λ (l : List Visit). 0 + splitsIn second l) all ∙ omega arith;
+      }
 
-  closed-is : (w : Visits) (m : ℕ) → outcome w left ≡ Outcome.Closed m → (w ≡ closed (visits w)) × (visits w ≤ left) × (m ≡ left - visits w)
-  closed-is (closed n) m e = go (either n left)
+  open-is : (w : Visits) (t : Tally) → outcome w (begin budget) ≡ Outcome.Open t → (xs : List Visit) × (w ≡ opened xs) × Within budget xs t
+  open-is w t e = go w (either (visits w) budget) e
     where
-      go : (n ≤ left) ⊎ (left < n) → (closed n ≡ closed n) × (n ≤ left) × (m ≡ left - n)
-      go (inl h) = let q : Outcome.Closed (left - n) ≡ Outcome.Closed m = sym (closed-left n left h) ∙ e in (refl, h, cc)
-      go (inr h) = let q : Outcome.Spent ≡ Outcome.Closed m = sym (none-left (closed n) left h) ∙ e in let z : _≡_ {A = ℕ} 0 1 = cc in absurd (omega arith)
-  closed-is (opened n) m e = go (either n left)
+      go : (w : Visits) → (visits w ≤ budget) ⊎ (budget < visits w) → outcome w (begin budget) ≡ Outcome.Open t → (xs : List Visit) × (w ≡ opened xs) × Within budget xs t
+      go (opened xs) (inl h) e = let q : Outcome.Open (after xs (begin budget)) ≡ Outcome.Open t = sym (enough-left (opened xs) (begin budget) h) ∙ e in (xs, refl, within xs t h cc)
+      go (closed xs) (inl h) e =
+          let q : Outcome.Closed (after xs (begin budget)) ≡ Outcome.Open t = sym (enough-left (closed xs) (begin budget) h) ∙ e in let z : _≡_ {A = ℕ} 0 1 = cc in absurd (omega arith)
+      go w (inr h) e = let q : Outcome.Spent (after (visited w) (begin budget)) ≡ Outcome.Open t = sym (too-few-left w (begin budget) h) ∙ e in let z : _≡_ {A = ℕ} 0 1 = cc in absurd (omega arith)
+
+  closed-is : (w : Visits) (t : Tally) → outcome w (begin budget) ≡ Outcome.Closed t → (xs : List Visit) × (w ≡ closed xs) × Within budget xs t
+  closed-is w t e = go w (either (visits w) budget) e
     where
-      go : (n ≤ left) ⊎ (left < n) → (opened n ≡ closed n) × (n ≤ left) × (m ≡ left - n)
-      go (inl h) = let q : Outcome.Open (left - n) ≡ Outcome.Closed m = sym (open-left n left h) ∙ e in let z : _≡_ {A = ℕ} 0 1 = cc in absurd (omega arith)
-      go (inr h) = let q : Outcome.Spent ≡ Outcome.Closed m = sym (none-left (opened n) left h) ∙ e in let z : _≡_ {A = ℕ} 0 1 = cc in absurd (omega arith)
+      go : (w : Visits) → (visits w ≤ budget) ⊎ (budget < visits w) → outcome w (begin budget) ≡ Outcome.Closed t → (xs : List Visit) × (w ≡ closed xs) × Within budget xs t
+      go (closed xs) (inl h) e = let q : Outcome.Closed (after xs (begin budget)) ≡ Outcome.Closed t = sym (enough-left (closed xs) (begin budget) h) ∙ e in (xs, refl, within xs t h cc)
+      go (opened xs) (inl h) e =
+          let q : Outcome.Open (after xs (begin budget)) ≡ Outcome.Closed t = sym (enough-left (opened xs) (begin budget) h) ∙ e in let z : _≡_ {A = ℕ} 0 1 = cc in absurd (omega arith)
+      go w (inr h) e = let q : Outcome.Spent (after (visited w) (begin budget)) ≡ Outcome.Closed t = sym (too-few-left w (begin budget) h) ∙ e in let z : _≡_ {A = ℕ} 0 1 = cc in absurd (omega arith)
+
+  spent-is : (w : Visits) (t : Tally) → outcome w (begin budget) ≡ Outcome.Spent t → (budget < visits w) × (t ≡ after (visited w) (begin budget))
+  spent-is w t e = go w (either (visits w) budget) e
+    where
+      go : (w : Visits) → (visits w ≤ budget) ⊎ (budget < visits w) → outcome w (begin budget) ≡ Outcome.Spent t → (budget < visits w) × (t ≡ after (visited w) (begin budget))
+      go (closed xs) (inl h) e =
+          let q : Outcome.Closed (after xs (begin budget)) ≡ Outcome.Spent t = sym (enough-left (closed xs) (begin budget) h) ∙ e in let z : _≡_ {A = ℕ} 0 1 = cc in absurd (omega arith)
+      go (opened xs) (inl h) e =
+          let q : Outcome.Open (after xs (begin budget)) ≡ Outcome.Spent t = sym (enough-left (opened xs) (begin budget) h) ∙ e in let z : _≡_ {A = ℕ} 0 1 = cc in absurd (omega arith)
+      go w (inr h) e = let q : Outcome.Spent (after (visited w) (begin budget)) ≡ Outcome.Spent t = sym (too-few-left w (begin budget) h) ∙ e in (h, sym cc)
 
 -- ---- of a guard
 
-module _ (g : Guard) (budget : ℕ) where
-  pub spent-below : outcome (searchOf g) budget ≡ Outcome.Spent → budget < nodeCount g
-  spent-below = spent-is budget (searchOf g)
+module _ (g : Guard) (budget : ℕ) (t : Tally) where
+  pub spent-count : outcome (searchOf g) (begin budget) ≡ Outcome.Spent t → (budget < nodeCount g) × (t ≡ after (visited (searchOf g)) (begin budget))
+  spent-count = spent-is budget (searchOf g) t
 
-  pub below-spent : budget < nodeCount g → outcome (searchOf g) budget ≡ Outcome.Spent
-  below-spent = none-left (searchOf g) budget
+  pub open-count : outcome (searchOf g) (begin budget) ≡ Outcome.Open t → (xs : List Visit) × (searchOf g ≡ opened xs) × Within budget xs t
+  open-count = open-is budget (searchOf g) t
 
-  pub open-count : (n : ℕ) → outcome (searchOf g) budget ≡ Outcome.Open n → (searchOf g ≡ opened (nodeCount g)) × (nodeCount g ≤ budget) × (n ≡ budget - nodeCount g)
-  open-count = open-is budget (searchOf g)
+  pub closed-count : outcome (searchOf g) (begin budget) ≡ Outcome.Closed t → (xs : List Visit) × (searchOf g ≡ closed xs) × Within budget xs t
+  closed-count = closed-is budget (searchOf g) t
 
-  pub closed-count : (n : ℕ) → outcome (searchOf g) budget ≡ Outcome.Closed n → (searchOf g ≡ closed (nodeCount g)) × (nodeCount g ≤ budget) × (n ≡ budget - nodeCount g)
-  closed-count = closed-is budget (searchOf g)
+pub below-spent : (g : Guard) (budget : ℕ) → budget < nodeCount g → outcome (searchOf g) (begin budget) ≡ Outcome.Spent (after (visited (searchOf g)) (begin budget))
+below-spent g budget h = too-few-left (searchOf g) (begin budget) h

@@ -2,7 +2,7 @@
 -- and splits where the definitions do. Assumes nothing.
 use mathlib.Core.Path.{_≡_, refl, sym, _∙_, subst}
 use mathlib.Core.List.{List, [], _∷_, _++_, map, List·Memᴰ, List·Memᴰ·head, List·Memᴰ·tail, Memᴰ·append-left, Memᴰ·append-right, List·Memᴰ·append-cases}
-use mathlib.Core.Bool.{true}
+use mathlib.Core.Bool.{Bool, true, false, cond}
 use mathlib.Core.Logic.{_⊎_, inl, inr, ⊎-elim}
 use mathlib.Core.Option.{some}
 use Prim.Native.Nat.{ℕ, _-_, _^_, _≤_, _<_}
@@ -14,11 +14,11 @@ use Rattle.laws.proofs.Lists.{all-mem, all-of}
 use Rattle.guard.specs.Closure.{Fact, Fact.within, LacksAt, State, add, allVariants, closureOf, consequences, constants, everyVariant, given, holds, ofLiteral, oneVariant, pairwise}
 use Rattle.guard.specs.Guard.{Guard, Literal, Literal.is, Literal.isnt, Literal.unequal}
 use Rattle.guard.specs.Limits.{variantLimit}
-use Rattle.guard.specs.Node.{Split, isClosed, splitOf}
+use Rattle.guard.specs.Node.{Kind, Split, isClosed, kindOf, splitOf}
 use Rattle.guard.specs.Terms.{Table, Term, tableOf, termCount}
 use Rattle.guard.specs.Types.{variantsOf}
 use borrow.Author.Tests.{lt-ltb}
-use Rattle.guard.proofs.Agreement.{Agrees, closed-agrees, named-reached, reached-agrees, reached-empty, split-agrees}
+use Rattle.guard.proofs.Agreement.{Agrees, closed-agrees, kind-agrees, named-reached, reached-agrees, reached-empty, split-agrees}
 use Rattle.guard.proofs.AnyOrder.{Reached, Reached.by-given, Reached.by-rules, Reached.start, any-order, reached-small}
 use Rattle.guard.proofs.ClosureBelow.{InRange, LiteralsInRange}
 use Rattle.guard.proofs.ClosureState.{Says, Small, add-keeps, add-says, says-kept}
@@ -31,14 +31,14 @@ use Rattle.passes.proofs.PassLaws.{steps-keep, steps-reach}
 use Rattle.arrays.specs.Arrays.{constantsOf, fieldlessOf, fullOf, readsOf, shapesOf, sortsOf}
 use Rattle.saturation.specs.Due.{allDue}
 use Rattle.saturation.proofs.Follows.{all-follow, nothing-new}
-use Rattle.splits.specs.Choice.{splitBy}
-use Rattle.splits.proofs.SplitLaws.{split-same}
+use Rattle.splits.specs.Choice.{firstBy, splitBy}
+use Rattle.splits.proofs.SplitLaws.{first-same, split-same}
 use Rattle.loops.specs.Lowest.{lowest}
 use Rattle.reasons.specs.Reasons.{emptyAt}
 use Rattle.reasons.proofs.ReasonLaws.{empty-same}
 use Rattle.nodes.specs.Closed.{closedBy}
 use Rattle.nodes.proofs.NodeLaws.{closed-same}
-use Rattle.search.specs.Nodes.{Accepted, Begun, NodeLiterals, NodeLiterals.atIs, NodeLiterals.atIsnt, NodeLiterals.atRoot}
+use Rattle.search.specs.Nodes.{Accepted, Begun, NodeLiterals, NodeLiterals.atIs, NodeLiterals.atIsnt, NodeLiterals.atRoot, kindBy}
 
 -- ---- the literals of a node
 
@@ -170,6 +170,15 @@ module _ (g : Guard) (ok : Accepted g) (ls : List Literal) (s : State) (begun : 
   splits =
       split-same (ok .limits) (ok .supported) g (ok .wellFormed) (ok .total) s′ small beyond
       ∙ split-agrees (tableOf g) (in-range g ok) s′ (closureOf (tableOf g) ls) agreed
+
+  pub kinds-same : kindBy (firstBy (readsOf g) s′) ≡ kindOf (tableOf g) (closureOf (tableOf g) ls)
+  kinds-same =
+      by-cond (firstBy (readsOf g) s′) ∙ first-same (ok .limits) (ok .supported) g (ok .wellFormed) (ok .total) s′ small beyond
+      ∙ kind-agrees (tableOf g) (in-range g ok) s′ (closureOf (tableOf g) ls) agreed
+    where
+      by-cond : (b : Bool) → kindBy b ≡ cond b Kind.first Kind.second
+      by-cond true = refl
+      by-cond false = refl
 
   -- ---- the children begin with one decision more
 

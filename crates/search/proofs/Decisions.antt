@@ -1,6 +1,6 @@
 -- The decision that code takes: it is the chosen one, its children begin with it, and at both the falling number is lower.
 -- Assumes nothing.
-use mathlib.Core.Path.{_≡_, refl, ap, _∙_, ap₂}
+use mathlib.Core.Path.{_≡_, refl, ap, sym, _∙_, ap₂}
 use mathlib.Core.Bool.{Bool, true, false}
 use mathlib.Core.List.{List}
 use mathlib.Core.Option.{some}
@@ -19,7 +19,7 @@ use Rattle.classes.proofs.ClassLaws.{held-after}
 use Rattle.passes.specs.Pass.{Due, Steps, Steps.done, Steps.then}
 use Rattle.arrays.specs.Slots.{ReadsFit}
 use Rattle.splits.specs.declared.Choice.{Choice}
-use Rattle.splits.specs.Choice.{choiceOf, splitBy}
+use Rattle.splits.specs.Choice.{choiceOf, firstBy, splitBy}
 use Rattle.search.specs.Nodes.{StateFit}
 use Rattle.search.proofs.Choices.{Chosen, chosen}
 use Rattle.search.proofs.Measure.{is-lower, isnt-lower, labelSum, sum-le}
@@ -46,21 +46,24 @@ fit-steps (then {s′ = x} p f m) h = fit-add x f (fit-steps p h)
 pub bit-most : (v : ℕ) → v < variantLimit → 2 ^ v ≤ 65535
 bit-most v h = leb-true _ _ (all-true-inv (λ u. leb (2 ^ u) 65535) (from 16 0) refl v (mem-from 16 0 v (omega arith) (omega arith)))
 
-module _ (reads sorts fieldless : List ℕ) (fit : ReadsFit reads) (s : State) (c : Choice) (e : c ≡ choiceOf (splitBy reads sorts fieldless s)) (f : c .found ≡ true) where
+module _ (reads sorts fieldless : List ℕ) (fit : ReadsFit reads) (s : State) (c : Choice) (e : c ≡ choiceOf (firstBy reads s) (splitBy reads sorts fieldless s)) (f : c .found ≡ true) where
   pub decision : Split
-  decision = a-choice c (splitBy reads sorts fieldless s) e f .0
+  decision = a-choice c (firstBy reads s) (splitBy reads sorts fieldless s) e f .0
 
   pub is-decided : splitBy reads sorts fieldless s ≡ some decision
   unfolding decision
-  is-decided = a-choice c (splitBy reads sorts fieldless s) e f .1
+  is-decided = a-choice c (firstBy reads s) (splitBy reads sorts fieldless s) e f .1
 
   same-term : c .term ≡ decision .term
   unfolding decision
-  same-term = a-choice c (splitBy reads sorts fieldless s) e f .2
+  same-term = a-choice c (firstBy reads s) (splitBy reads sorts fieldless s) e f .2
 
   same-variant : c .variant ≡ decision .variant
   unfolding decision
-  same-variant = a-choice c (splitBy reads sorts fieldless s) e f .3
+  same-variant = a-choice c (firstBy reads s) (splitBy reads sorts fieldless s) e f .3
+
+  pub same-kind : firstBy reads s ≡ c .first
+  same-kind = sym (a-choice c (firstBy reads s) (splitBy reads sorts fieldless s) e f .4)
 
   on : Chosen s decision
   on = chosen reads fit s sorts fieldless decision is-decided

@@ -1,33 +1,75 @@
 // The search over decisions, depth first, with a budget of nodes. `specs/` says what it gives.
 ghost use mathlib.Core.Path.{_≡_};
+ghost use Prim.Native.Nat.{_<_, _≤_};
+ghost use Rattle.guard.specs.Search.{Visit.leaf, Visit.split};
 ghost use Rattle.classes.specs.Held.{Held, state};
-ghost use Rattle.search.specs.Outcome.{isClosedOutcome, leftOf};
-ghost use Rattle.search.specs.Nodes.{ArraysFit, Searches, StateFit};
+ghost use Rattle.search.specs.Outcome.{afterOne, isClosedOutcome, tallyOf, total};
+ghost use Rattle.search.specs.Nodes.{ArraysFit, Searches, StateFit, kindBy};
 
-// How a search ends, with the nodes left of its budget.
+// The nodes that are left of a budget, and the splits of either kind that were made.
+pub struct Tally {
+    pub left: u32,
+    pub first: u32,
+    pub second: u32,
+}
+
+// How a search ends.
 pub enum Outcome {
-    Open(u32),
-    Closed(u32),
-    Spent,
+    Open(Tally),
+    Closed(Tally),
+    Spent(Tally),
 }
 
 fn is_closed(o: Outcome) -> bool
     ensures { λ r. ⌜ r ≡ isClosedOutcome o ⌝ }
 {
     match o {
-        Outcome::Open(n) => false,
-        Outcome::Closed(n) => true,
-        Outcome::Spent => false,
+        Outcome::Open(t) => false,
+        Outcome::Closed(t) => true,
+        Outcome::Spent(t) => false,
     }
 }
 
-fn left_of(o: Outcome) -> u32
-    ensures { λ r. ⌜ r ≡ leftOf o ⌝ }
+fn tally_of(o: Outcome) -> Tally
+    ensures { λ r. ⌜ r ≡ tallyOf o ⌝ }
 {
     match o {
-        Outcome::Open(n) => n,
-        Outcome::Closed(n) => n,
-        Outcome::Spent => 0,
+        Outcome::Open(t) => t,
+        Outcome::Closed(t) => t,
+        Outcome::Spent(t) => t,
+    }
+}
+
+// With a node more that is a leaf.
+fn with_leaf(t: Tally) -> Tally
+    requires { ⌜ 0 < t .left ⌝ }
+    ensures { λ r. ⌜ r ≡ afterOne leaf t ⌝ }
+{
+    Tally {
+        left: t.left - 1,
+        first: t.first,
+        second: t.second,
+    }
+}
+
+// With a node more that splits.
+fn with_split(t: Tally, first: bool) -> Tally
+    requires { ⌜ 0 < t .left ⌝ }
+    requires { ⌜ total t ≤ 4294967295 ⌝ }
+    ensures { λ r. ⌜ r ≡ afterOne (split (kindBy first)) t ⌝ }
+{
+    let left = t.left - 1;
+    if first {
+        return Tally {
+            left: left,
+            first: t.first + 1,
+            second: t.second,
+        };
+    }
+    Tally {
+        left: left,
+        first: t.first,
+        second: t.second + 1,
     }
 }
 
@@ -49,15 +91,17 @@ pub fn visit(
     terms: &[u8; 64],
     others: &[u8; 64],
     many: usize,
-    left: u32,
+    tally: Tally,
 ) -> Outcome
     requires { ⌜ StateFit (state (now classes) (now labels)) ⌝ }
     requires { ⌜ ArraysFit (now shapes) (now reads) (now sorts) (now full) (now fieldless) (now labelled) count (now terms) (now others) many ⌝ }
-    ensures { λ r. ⌜ Searches (now (shapes .entry)) (now (reads .entry)) (now (sorts .entry)) (now (full .entry)) (now (fieldless .entry)) (now (constants .entry)) (now (values .entry)) (now (kinds .entry)) (now (terms .entry)) (now (others .entry)) many left (state (now (classes .entry)) (now (labels .entry))) r (state (now (classes .exit)) (now (labels .exit))) ⌝ }
+    requires { ⌜ total tally ≤ 4294967295 ⌝ }
+    ensures { λ r. ⌜ Searches (now (shapes .entry)) (now (reads .entry)) (now (sorts .entry)) (now (full .entry)) (now (fieldless .entry)) (now (constants .entry)) (now (values .entry)) (now (kinds .entry)) (now (terms .entry)) (now (others .entry)) many tally (state (now (classes .entry)) (now (labels .entry))) r (state (now (classes .exit)) (now (labels .exit))) ⌝ }
     ensures { λ r. ⌜ Held (now (classes .exit)) ⌝ }
+    ensures { λ r. ⌜ total (tallyOf r) ≤ total tally ⌝ }
 {
-    if left == 0 {
-        return Outcome::Spent;
+    if tally.left == 0 {
+        return Outcome::Spent(tally);
     }
     saturation::saturate(
         classes,
@@ -85,11 +129,11 @@ pub fn visit(
         others,
         many,
     ) {
-        return Outcome::Closed(left - 1);
+        return Outcome::Closed(with_leaf(tally));
     }
     let d = splits::split(classes, labels, reads, sorts, fieldless, labelled, count);
     if !d.found {
-        return Outcome::Open(left - 1);
+        return Outcome::Open(with_leaf(tally));
     }
     let bit = labels::only(d.variant as u32);
     let mut own = *classes;
@@ -111,7 +155,7 @@ pub fn visit(
         terms,
         others,
         many,
-        left - 1,
+        with_split(tally, d.first),
     );
     if !is_closed(first) {
         *classes = own;
@@ -135,6 +179,6 @@ pub fn visit(
         terms,
         others,
         many,
-        left_of(first),
+        tally_of(first),
     )
 }

@@ -1,7 +1,7 @@
 -- The split by the arrays of a guard's problem is the split of document 01. Assumes nothing.
 use mathlib.Core.Path.{_≡_, refl, ap, ap₂, sym, _∙_}
 use mathlib.Core.Logic.{_⊎_, inl, inr}
-use mathlib.Core.Bool.{Bool, true, false, not, cond, _&&_}
+use mathlib.Core.Bool.{Bool, true, false, not, cond, _&&_, false≢true}
 use mathlib.Core.List.{List, [], _∷_, List·Memᴰ}
 use mathlib.Core.Option.{Option, none, some}
 use Prim.Native.Nat.{ℕ, zero, suc, _+_, _-_, _≤_, _<_, _^_}
@@ -11,15 +11,15 @@ use lib.Dec.{eqb, leb, ltb}
 use lib.ListN.{length, getD}
 use borrow.Author.Tests.{eq-eqb, ne-eqb, eqb-true, eqb-false, leb-true, le-ltb, lt-ltb, ltb-true, ltb-false, not-true}
 use Rattle.laws.specs.Bits.{bit}
-use Rattle.laws.specs.Lists.{all, consIf, filter, find, from, member}
+use Rattle.laws.specs.Lists.{all, any, consIf, filter, find, from, member}
 use Rattle.laws.proofs.Bits.{bit-and, sub-le}
 use Rattle.laws.proofs.Bools.{and-left, and-right, by-test}
-use Rattle.laws.proofs.Lists.{all-true, all-true-inv, filter-is, filter-mem, mem-from}
+use Rattle.laws.proofs.Lists.{all-true, all-true-inv, any-of, any-some, filter-is, filter-mem, find-none, mem-from}
 use Rattle.laws.proofs.Members.{member-of, of-member}
 use Rattle.guard.specs.Closure.{State, classOf, labelOf, lacks}
 use Rattle.guard.specs.Guard.{Guard}
 use Rattle.guard.specs.Limits.{Limits, Supported, totalVariantLimit, variantLimit}
-use Rattle.guard.specs.Node.{Split, firstKind, onRead, onTerm, secondKind, splitOf, variantsLeft}
+use Rattle.guard.specs.Node.{Kind, Split, firstKind, kindOf, onRead, onTerm, secondKind, splitOf, variantsLeft}
 use Rattle.guard.specs.Terms.{Read, Table, Term, fieldless, tableOf}
 use Rattle.guard.specs.Types.{variantsOf}
 use Rattle.guard.specs.WellFormed.{WellFormed}
@@ -35,7 +35,7 @@ use Rattle.arrays.proofs.GuardSlots.{read-slots, sort-slots}
 use Rattle.arrays.proofs.MaskLaws.{bit-fieldless, fieldless-bit}
 use Rattle.slots.proofs.OnlyOne.{one-left}
 use Rattle.arrays.proofs.TableSlots.{ReadSlot, ReadSlots, SortSlots}
-use Rattle.splits.specs.Choice.{lowestIn, onReadAt, onTermAt, readSplits, splitAt, splitBy, termSplits}
+use Rattle.splits.specs.Choice.{firstBy, lowestIn, onReadAt, onTermAt, readSplits, splitAt, splitBy, termSplits}
 use Rattle.splits.proofs.InOrder.{find-lowest}
 use Rattle.splits.proofs.Tests.{no-variants}
 use Rattle.splits.proofs.TermOrder.{numberOf, reads-rise, rowOf, terms-rise}
@@ -199,11 +199,28 @@ module _ (limits : Limits) (supported : Supported limits) (g : Guard) (ok : Well
   by-term : (x : Term) → List·Memᴰ x (tableOf g .terms) → x .term ≡ lowest secondTest 78 → secondKind t s x ≡ true → onTermAt s (lowest secondTest 78) ≡ onTerm t s x
   by-term x m e q = ap (onTermAt s) (sym e) ∙ on-term-same t s small x (sorts-have .fewVariants (x .type)) (within x m) q
 
+  found-read
+      : ((r : Read) × List·Memᴰ r (tableOf g .reads) × (r .row ≡ lowest firstTest 24) × (lowest firstTest 24 < 24) × (firstKind s r ≡ true) × (find (firstKind s) (tableOf g .reads) ≡ some r))
+      ⊎ ((24 ≤ lowest firstTest 24) × (find (firstKind s) (tableOf g .reads) ≡ none))
+  found-read =
+      find-lowest rowOf (firstKind s) firstTest 24 (tableOf g .reads) (reads-rise limits supported g ok)
+      (λ r m. let (h, slot) = reads-have .slot r m in (h, read-same (readsOf g) s (r .row) r slot)) read-found
+
+  pub first-same : cond (firstBy (readsOf g) s) Kind.first Kind.second ≡ kindOf (tableOf g) s
+  unfolding firstBy kindOf
+  first-same = ap (λ (b : Bool). cond b Kind.first Kind.second) (go found-read)
+    where
+      go : ((r : Read) × List·Memᴰ r (tableOf g .reads) × (r .row ≡ lowest firstTest 24) × (lowest firstTest 24 < 24) × (firstKind s r ≡ true) × (find (firstKind s) (tableOf g .reads) ≡ some r))
+          ⊎ ((24 ≤ lowest firstTest 24) × (find (firstKind s) (tableOf g .reads) ≡ none)) → ltb (lowest firstTest 24) 24 ≡ any (firstKind s) (tableOf g .reads)
+      go (inl (r, m, e, h, q, f)) = lt-ltb _ 24 h ∙ sym (any-of (firstKind s) (tableOf g .reads) r m q)
+      go (inr (h, f)) =
+          le-ltb _ 24 h
+          ∙ sym (by-test (any (firstKind s) (tableOf g .reads)) (λ e. let (r, m, q) = any-some (firstKind s) (tableOf g .reads) e in absurd (false≢true (sym (find-none (firstKind s) (tableOf g .reads) f r m) ∙ q))) (λ e. e))
+
   pub split-same : splitBy (readsOf g) (sortsOf g) (fieldlessOf g) s ≡ splitOf (tableOf g) s
   unfolding splitBy chosen
   split-same =
-      go (find-lowest rowOf (firstKind s) firstTest 24 (tableOf g .reads) (reads-rise limits supported g ok)
-      (λ r m. let (h, slot) = reads-have .slot r m in (h, read-same (readsOf g) s (r .row) r slot)) read-found)
+      go found-read
       (find-lowest numberOf (secondKind t s) secondTest 78 (tableOf g .terms) (terms-rise limits supported g ok) term-slot term-found)
       ∙ sym (split-chosen (tableOf g) s)
     where

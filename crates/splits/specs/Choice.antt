@@ -40,7 +40,11 @@ splitAt reads s k x = cond (ltb k 24) (some (onReadAt reads k)) (cond (ltb x 78)
 unfoldable pub splitBy : List ℕ → List ℕ → List ℕ → State → Option Split
 splitBy reads sorts fieldless s = splitAt reads s (lowest (readSplits reads s) 24) (lowest (termSplits sorts fieldless s) 78)
 
--- a split as code returns it
-abbrev pub choiceOf : Option Split → Choice
-choiceOf none = record { found = false; term = 0; variant = 0 }
-choiceOf (some d) = record { found = true; term = d .term; variant = d .variant }
+-- whether it is of the first kind
+unfoldable pub firstBy : List ℕ → State → Bool
+firstBy reads s = ltb (lowest (readSplits reads s) 24) 24
+
+-- a split as code returns it, and whether it is of the first kind
+abbrev pub choiceOf : Bool → Option Split → Choice
+choiceOf b none = record { found = false; first = false; term = 0; variant = 0 }
+choiceOf b (some d) = record { found = true; first = b; term = d .term; variant = d .variant }

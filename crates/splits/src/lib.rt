@@ -6,13 +6,14 @@ ghost use Rattle.classes.specs.Held.{Held, state};
 ghost use Rattle.loops.specs.Lowest.{lowest};
 ghost use Rattle.arrays.specs.Slots.{ReadsFit, SortsFit};
 ghost use Rattle.labelled.specs.Covers.{Covers, hasMask};
-ghost use Rattle.splits.specs.Choice.{choiceOf, lowestIn, readSplits, splitBy, termSplits};
+ghost use Rattle.splits.specs.Choice.{choiceOf, firstBy, lowestIn, readSplits, splitBy, termSplits};
 use slots::label_at;
 use slots::wide;
 
-// A decision to split on: whether there is one, its term and its variant.
+// A decision to split on: whether there is one, whether it is of the first kind, its term and its variant.
 pub struct Choice {
     pub found: bool,
+    pub first: bool,
     pub term: u8,
     pub variant: u8,
 }
@@ -106,12 +107,13 @@ fn second_kind(
 // ---- the split
 
 // The decision on a term's lowest variant, of those in a label.
-fn decide(term: usize, label: u16) -> Choice
+fn decide(first: bool, term: usize, label: u16) -> Choice
     requires { ⌜ term < 96 ⌝ }
-    ensures { λ r. ⌜ r ≡ choiceOf (some (record { term = term; variant = lowestIn label })) ⌝ }
+    ensures { λ r. ⌜ r ≡ choiceOf first (some (record { term = term; variant = lowestIn label })) ⌝ }
 {
     Choice {
         found: true,
+        first: first,
         term: term as u8,
         variant: labels::lowest(label) as u8,
     }
@@ -131,18 +133,19 @@ pub fn split(
     requires { ⌜ ReadsFit (now reads) ⌝ }
     requires { ⌜ SortsFit (now sorts) ⌝ }
     requires { ⌜ Covers (hasMask (now sorts) (now fieldless)) 78 (now labelled) count ⌝ }
-    ensures { λ r. ⌜ r ≡ choiceOf (splitBy (now (reads .entry)) (now (sorts .entry)) (now (fieldless .entry)) (state (now (classes .entry)) (now (labels .entry)))) ⌝ }
+    ensures { λ r. ⌜ r ≡ choiceOf (firstBy (now (reads .entry)) (state (now (classes .entry)) (now (labels .entry)))) (splitBy (now (reads .entry)) (now (sorts .entry)) (now (fieldless .entry)) (state (now (classes .entry)) (now (labels .entry)))) ⌝ }
 {
     let k = first_kind(classes, labels, reads);
     if k < 24 {
-        return decide(word(reads[4 * k]), reads[4 * k + 2]);
+        return decide(true, word(reads[4 * k]), reads[4 * k + 2]);
     }
     let x = second_kind(classes, labels, sorts, fieldless, labelled, count);
     if x < 78 {
-        return decide(x, label_at(classes, labels, x));
+        return decide(false, x, label_at(classes, labels, x));
     }
     Choice {
         found: false,
+        first: false,
         term: 0,
         variant: 0,
     }

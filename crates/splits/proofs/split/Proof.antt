@@ -1,5 +1,6 @@
 -- `split` meets its contract. Assumes nothing.
 use mathlib.Core.Path.{_∙_, ap}
+use mathlib.Core.Bool.{true, false}
 use mathlib.Core.Option.{some}
 use Prim.Native.Nat.{ℕ}
 use native.Mathlib.Omega.{arith}
@@ -22,7 +23,7 @@ returns c =
     let a = b .before .args in
     let k : ℕ = b .first-kind .result in
     first-found (a .reads .now) (a .sorts .now) (a .fieldless .now) (state (a .classes .now) (a .labels .now)) k (b .first-kind .ensures) (c .before .before .before .before .if1 .taken) (c .decide .result)
-    (c .decide .ensures ∙ ap (λ (x : ℕ). choiceOf (some (record { term = x; variant = lowestIn (readBit (a .reads .now) k) }))) (c .before .before .word .ensures))
+    (c .decide .ensures ∙ ap (λ (x : ℕ). choiceOf true (some (record { term = x; variant = lowestIn (readBit (a .reads .now) k) }))) (c .before .before .word .ensures))
 
 returns-2 : tie.Need-returns-2
 returns-2 c =
@@ -31,7 +32,7 @@ returns-2 c =
     let a = b .before .args in
     second-found (a .reads .now) (a .sorts .now) (a .fieldless .now) (state (a .classes .now) (a .labels .now)) (b .first-kind .result) (b .first-kind .ensures) (d .before .if1 .left)
     (d .second-kind .result) (d .second-kind .ensures) (c .before .before .if2 .taken) (c .decide2 .result)
-    (c .decide2 .ensures ∙ ap (λ (m : ℕ). choiceOf (some (record { term = d .second-kind .result; variant = lowestIn m }))) (c .before .label-at .ensures))
+    (c .decide2 .ensures ∙ ap (λ (m : ℕ). choiceOf false (some (record { term = d .second-kind .result; variant = lowestIn m }))) (c .before .label-at .ensures))
 
 returns-3 : tie.Need-returns-3
 returns-3 c =
