@@ -68,11 +68,11 @@ abbrev numberTypes : Types
 numberTypes = [] ∷ []
 
 pub number-rows
-  : map (decodeRow numberTypes []) (numberRow (pos 4) (pos 0) ∷ numberRow (negsuc 2) (negsuc 0) ∷ numberRow (negsuc 0) (pos 0) ∷ numberRow (negsuc 0) (pos 2147483647) ∷ numberRow (pos 0) (negsuc 2147483647) ∷ [])
-  ≡ map (number 0) (pos 4 ∷ negsuc 2 ∷ pos 4294967295 ∷ pos 9223372036854775807 ∷ negsuc 9223372036854775807 ∷ [])
+    : map (decodeRow numberTypes []) (numberRow (pos 4) (pos 0) ∷ numberRow (negsuc 2) (negsuc 0) ∷ numberRow (negsuc 0) (pos 0) ∷ numberRow (negsuc 0) (pos 2147483647) ∷ numberRow (pos 0) (negsuc 2147483647) ∷ [])
+    ≡ map (number 0) (pos 4 ∷ negsuc 2 ∷ pos 4294967295 ∷ pos 9223372036854775807 ∷ negsuc 9223372036854775807 ∷ [])
 number-rows = refl
 
 -- a low number beyond 32 bits doesn't fit, and neither does a fourth number that is not 0
 pub number-rows-fit
-  : map (rowFits numberTypes [] 0) (numberRow (negsuc 2) (negsuc 0) ∷ numberRow (pos 2147483648) (pos 0) ∷ (negsuc 0 ∷ pos 4 ∷ pos 0 ∷ pos 1 ∷ []) ∷ []) ≡ true ∷ false ∷ false ∷ []
+    : map (rowFits numberTypes [] 0) (numberRow (negsuc 2) (negsuc 0) ∷ numberRow (pos 2147483648) (pos 0) ∷ (negsuc 0 ∷ pos 4 ∷ pos 0 ∷ pos 1 ∷ []) ∷ []) ≡ true ∷ false ∷ false ∷ []
 number-rows-fit = refl
