@@ -1,9 +1,9 @@
-// Numbers of the guard file, read at a cursor, and signed values. Document 01: a number has one to five
+// Numbers of the guard file, read at a cursor, and what a signed number is written as. Document 01: a number has one to five
 // bytes, each with seven bits of it, the low group first; bit 80 is set in all bytes but the last; it has
 // the fewest bytes, and is at most 4,294,967,295.
 ghost use mathlib.Core.Path.{_≡_};
 ghost use Prim.Native.Nat.{_<_};
-ghost use Rattle.guard.specs.Number.{foldSigned, unfoldSigned};
+ghost use Rattle.guard.specs.Number.{foldSigned};
 ghost use Rattle.numbers.specs.Reader.{refusal, numberAt, belowAt};
 
 // What a read found. `refused` is 0, or the question that refused, and then `value` and `at` are 0 too.
@@ -72,17 +72,6 @@ pub fn read_below(bytes: &[u8], at: usize, limit: u32, question: u32) -> Number
         return refuse(question);
     }
     n
-}
-
-// The signed value that is written as `n`.
-pub fn unfold_signed(n: u32) -> i32
-    ensures { λ r. ⌜ r ≡ unfoldSigned n ⌝ }
-{
-    let half = (n / 2) as i32;
-    if n % 2 == 0 {
-        return half;
-    }
-    -1 - half
 }
 
 // What a signed value is written as. −1 − v fits where −v does not, at the lowest value.

@@ -1,5 +1,5 @@
-// The value of a constant over 64 bits, for request #104; nothing uses it yet. It is written as a number is, with up to ten bytes, and
-// is at most 18,446,744,073,709,551,615 as written.
+// The value of a constant. Document 02, #104: it runs over 64 bits, and is written as a number is, with up to ten bytes and at most
+// 18,446,744,073,709,551,615 as written.
 ghost use mathlib.Core.Path.{_≡_};
 ghost use Prim.Native.Nat.{_<_, _≤_};
 ghost use lib.Dec.{leb};
