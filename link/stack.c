@@ -10,7 +10,7 @@
 
 enum { STACK = 1 << 21, PAINT = 0xa5, LEVELS = 2048 };
 
-static uint8_t file[512], *record;
+static uint8_t file[1024], *record;
 static size_t file_length, record_room, record_length;
 static uint32_t budget, answer[GUARDDESK_ANSWER_LENGTH], question;
 static int32_t rows[GUARDDESK_ROWS_LENGTH], places[GUARDDESK_PLACES_LENGTH];

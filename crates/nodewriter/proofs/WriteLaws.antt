@@ -21,7 +21,7 @@ use Rattle.passes.specs.Pass.{Saturated}
 use Rattle.arrays.specs.Arrays.{fieldlessOf, readsOf, shapesOf, sortsOf}
 use Rattle.saturation.specs.Due.{allDue}
 use Rattle.splits.specs.declared.Choice.{Choice}
-use Rattle.splits.specs.Choice.{choiceOf, splitBy}
+use Rattle.splits.specs.Choice.{choiceOf, firstBy, splitBy}
 use Rattle.search.specs.Nodes.{Accepted, ArraysOf, Begun, NodeLiterals, NodeLiterals.atIs, NodeLiterals.atIsnt, NodeLiterals.atRoot, StateFit}
 use Rattle.search.proofs.ClosedState.{agreed, is-begun, isnt-begun, literals-in, splits}
 use Rattle.refutations.specs.Record.{Entry, bytesOf, claim, closing, closings, entries, ofNode}
@@ -119,7 +119,7 @@ module _ {shapes reads sorts full fieldless constants : List ℕ} {values : List
     pub open-node : splitBy reads sorts fieldless s₁ ≡ none → (out : List ℕ) (at : ℕ) → at ≤ length out → Gives s out at (record { fits = true; at = at }) out
     open-node e out at h = record { puts = λ g ls ok arrays begun. same-bytes (nothing h) (open-bytes g ls ok arrays begun live e) }
 
-    module _ (d : Split) (chosen : splitBy reads sorts fieldless s₁ ≡ some d) {k : Choice} (is-k : k ≡ choiceOf (splitBy reads sorts fieldless s₁))
+    module _ (d : Split) (chosen : splitBy reads sorts fieldless s₁ ≡ some d) {k : Choice} (is-k : k ≡ choiceOf (firstBy reads s₁) (splitBy reads sorts fieldless s₁))
         {out : List ℕ} {at : ℕ} {r₁ : End} {out₁ : List ℕ} (entry : Puts (4 ∷ k .term ∷ k .variant ∷ []) out at r₁ out₁) where
       module _ (g : Guard) (ls : List Literal) (ok : Accepted g) (arrays : Arrays g) (begun : Begun g ls s) where
         abbrev isBytes : List ℕ
@@ -132,7 +132,7 @@ module _ {shapes reads sorts full fieldless constants : List ℕ} {values : List
         split? = is-choice g ls ok arrays begun (some d) chosen
 
         whole : (4 ∷ k .term ∷ k .variant ∷ []) ++ (isBytes ++ isntBytes) ≡ concatMap bytesOf (entries (tableOf g) (g .literals) ls)
-        whole = ap (λ (x : Choice). (4 ∷ x .term ∷ x .variant ∷ []) ++ (isBytes ++ isntBytes)) (is-k ∙ ap choiceOf chosen) ∙ split-node-bytes g ls ok arrays begun live d split?
+        whole = ap (λ (x : Choice). (4 ∷ x .term ∷ x .variant ∷ []) ++ (isBytes ++ isntBytes)) (is-k ∙ ap (choiceOf (firstBy reads s₁)) chosen) ∙ split-node-bytes g ls ok arrays begun live d split?
 
       pub entry-full : r₁ .fits ≡ false → Gives s out at r₁ out₁
       entry-full q =

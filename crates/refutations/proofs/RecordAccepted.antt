@@ -14,9 +14,9 @@ use Rattle.laws.proofs.Lists.{all-append, all-mem}
 use Rattle.guard.specs.Closure.{closureOf}
 use Rattle.guard.specs.Guard.{Guard, Literal, Literal.is, Literal.isnt}
 use Rattle.guard.specs.Limits.{Limits, Supported}
-use Rattle.guard.specs.Node.{Split, isClosed, splitOf}
+use Rattle.guard.specs.Node.{Kind, Split, isClosed, kindOf, splitOf}
 use Rattle.guard.specs.Number.{Parsed.accepted, Parser, _>>_, andThen, ask}
-use Rattle.guard.specs.Search.{Visits, Visits.closed, Visits.opened, children, labelTotal, node, search, searchOf, searchTo}
+use Rattle.guard.specs.Search.{Visit, Visit.leaf, Visit.split, Visits, Visits.closed, Visits.opened, children, labelTotal, node, search, searchOf, searchTo}
 use Rattle.guard.specs.Terms.{Table, tableOf}
 use Rattle.guard.specs.WellFormed.{WellFormed}
 use Rattle.guard.proofs.ClosureBelow.{InRange}
@@ -59,16 +59,16 @@ split-goes holds child d ys ns rest small h first second =
 -- ---- the closed search
 
 -- both children of a node whose search ends closed end closed
-children-inv : (a b : Visits) (n : ℕ) → children a (λ u. b) ≡ closed n → (i : ℕ) × (j : ℕ) × (a ≡ closed i) × (b ≡ closed j) × (1 + i + j ≡ n)
-children-inv (opened i) b n e = let z : _≡_ {A = ℕ} 0 1 = cc in absurd (omega arith)
-children-inv (closed i) (opened j) n e = let z : _≡_ {A = ℕ} 0 1 = cc in absurd (omega arith)
-children-inv (closed i) (closed j) n e = (i, j, refl, refl, cc)
+children-inv : (k : Kind) (a b : Visits) (n : List Visit) → children k a (λ u. b) ≡ closed n → (i : List Visit) × (j : List Visit) × (a ≡ closed i) × (b ≡ closed j) × ((split k ∷ i) ++ j ≡ n)
+children-inv k (opened i) b n e = let z : _≡_ {A = ℕ} 0 1 = cc in absurd (omega arith)
+children-inv k (closed i) (opened j) n e = let z : _≡_ {A = ℕ} 0 1 = cc in absurd (omega arith)
+children-inv k (closed i) (closed j) n e = (i, j, refl, refl, cc)
 
 module _ (t : Table) (range : InRange t) (lines : List Literal) (few : length lines ≤ 128) where
-  -- the entries from a node on, where its search ends closed after n nodes
-  record Recorded (k : ℕ) (ls : List Literal) (n : ℕ) : Type 0 where
+  -- the entries from a node on, where its search ends closed after the visits n
+  record Recorded (k : ℕ) (ls : List Literal) (n : List Visit) : Type 0 where
     accepts : (rest : List ℕ) → checkTo k t lines ls (concatMap bytesOf (entriesTo k t lines ls) ++ rest) ≡ accepted tt rest
-    count : length (entriesTo k t lines ls) ≡ n
+    count : length (entriesTo k t lines ls) ≡ length n
     small : All Small (entriesTo k t lines ls)
 
   small-closings : All Small (closings (length lines))
@@ -79,7 +79,7 @@ module _ (t : Table) (range : InRange t) (lines : List Literal) (few : length li
       two : (k i : ℕ) → k < 128 → i < 128 → All (λ n. n < 128) (k ∷ i ∷ [])
       two k i p q = more p (more q none)
 
-  recorded : (k : ℕ) (ls : List Literal) (n : ℕ) → OverLines lines ls → searchTo k t ls ≡ closed n → Recorded k ls n
+  recorded : (k : ℕ) (ls : List Literal) (n : List Visit) → OverLines lines ls → searchTo k t ls ≡ closed n → Recorded k ls n
   unfolding searchTo entriesTo checkTo
   recorded zero ls n o e = let z : _≡_ {A = ℕ} 0 1 = cc in absurd (omega arith)
   recorded (suc k) ls n o e =
@@ -88,9 +88,9 @@ module _ (t : Table) (range : InRange t) (lines : List Literal) (few : length li
       child : Literal → Parser (Unit {0})
       child l = checkTo k t lines (l ∷ ls)
 
-      go : ((l : Literal) (m : ℕ) → OverLines lines (l ∷ ls) → searchTo k t (l ∷ ls) ≡ closed m → Recorded k (l ∷ ls) m)
+      go : ((l : Literal) (m : List Visit) → OverLines lines (l ∷ ls) → searchTo k t (l ∷ ls) ≡ closed m → Recorded k (l ∷ ls) m)
           → (c : Option Entry) → closing t lines (closureOf t ls) ≡ c → (b : Bool) → isClosed t ls (closureOf t ls) ≡ b → (d : Option Split) → splitOf t (closureOf t ls) ≡ d
-          → node b d (λ l. searchTo k t (l ∷ ls)) ≡ closed n → Recorded (suc k) ls n
+          → node b (kindOf t (closureOf t ls)) d (λ l. searchTo k t (l ∷ ls)) ≡ closed n → Recorded (suc k) ls n
       go ih (some x) qc true qb d qd e =
           let (m, h) = closing-is t range lines ls o (closureOf t ls) x qc in
           let sx : Small x = all-mem small-closings x m in
@@ -98,14 +98,14 @@ module _ (t : Table) (range : InRange t) (lines : List Literal) (few : length li
             accepts = λ rest. rw qc (ap (λ (bs : List ℕ). checkNode (claim t lines (closureOf t ls)) child (bs ++ rest)) (append-nil (bytesOf x))
                 ∙ node-goes (claim t lines (closureOf t ls)) child x rest sx h
                 ∙ all-mem (closings-all {P = λ y. below child y rest ≡ accepted tt rest} (length lines) (λ i l. refl) (λ j l. refl) (λ i l. refl) (λ i l. refl)) x m);
-            count = rw qc (cc);
+            count = rw qc (let one : leaf ∷ [] ≡ n = cc in ap length one);
             small = rw qc (more sx none);
           }
       go ih (some x) qc false qb d qd e = absurd (false≢true (sym qb ∙ closing-closed t range lines ls o (closureOf t ls) x qc))
       go ih none qc true qb d qd e = absurd (false≢true (sym (closing-none t range lines ls o (closureOf t ls) qc) ∙ qb))
       go ih none qc false qb none qd e = let z : _≡_ {A = ℕ} 0 1 = cc in absurd (omega arith)
       go ih none qc false qb (some d) qd e =
-          let (i, j, p, q, z) = children-inv (searchTo k t (is (d .term) (d .variant) ∷ ls)) (searchTo k t (isnt (d .term) (d .variant) ∷ ls)) n e in
+          let (i, j, p, q, z) = children-inv (kindOf t (closureOf t ls)) (searchTo k t (is (d .term) (d .variant) ∷ ls)) (searchTo k t (isnt (d .term) (d .variant) ∷ ls)) n e in
           let first : Recorded k (is (d .term) (d .variant) ∷ ls) i = ih (is (d .term) (d .variant)) i (is-over lines ls o (d .term) (d .variant)) p in
           let second : Recorded k (isnt (d .term) (d .variant) ∷ ls) j = ih (isnt (d .term) (d .variant)) j (isnt-over lines ls o (d .term) (d .variant)) q in
           let sp = split-is t range ls d qd in
@@ -113,11 +113,11 @@ module _ (t : Table) (range : InRange t) (lines : List Literal) (few : length li
           record {
             accepts = λ rest. rw (qc, qd) (split-goes (claim t lines (closureOf t ls)) child d (entriesTo k t lines (is (d .term) (d .variant) ∷ ls)) (entriesTo k t lines (isnt (d .term) (d .variant) ∷ ls)) rest
                 small (split-claims t lines ls d sp) (first .accepts) (second .accepts));
-            count = rw (qc, qd) (omega (arith, z, first .count, second .count, length-append (entriesTo k t lines (is (d .term) (d .variant) ∷ ls)) (entriesTo k t lines (isnt (d .term) (d .variant) ∷ ls))));
+            count = rw (qc, qd) (omega (arith, ap length z, length-append i j, first .count, second .count, length-append (entriesTo k t lines (is (d .term) (d .variant) ∷ ls)) (entriesTo k t lines (isnt (d .term) (d .variant) ∷ ls))));
             small = rw (qc, qd) (more small (all-append (first .small) (second .small)));
           }
 
-module _ (limits : Limits) (sup : Supported limits) (g : Guard) (ok : WellFormed limits g) (n : ℕ) (e : searchOf g ≡ closed n) where
+module _ (limits : Limits) (sup : Supported limits) (g : Guard) (ok : WellFormed limits g) (n : List Visit) (e : searchOf g ≡ closed n) where
   whole : Recorded (tableOf g) (table-in-range limits sup g ok) (g .literals) (omega (arith, ok .lineCount, sup .lines)) (suc (labelTotal (tableOf g) (closureOf (tableOf g) (g .literals)))) (g .literals) n
   unfolding searchOf search
   whole =
@@ -131,11 +131,11 @@ module _ (limits : Limits) (sup : Supported limits) (g : Guard) (ok : WellFormed
       ap (andThen (λ (v : Unit {0}). noMore)) (ap (checkFrom (tableOf g) (g .literals) (g .literals)) (sym (append-nil (recordBytes g))) ∙ whole .accepts [])
 
   -- an entry for each node
-  pub record-length : length (recordOf g) ≡ n
+  pub record-length : length (recordOf g) ≡ length n
   unfolding recordOf entries
   record-length = whole .count
 
-  pub record-bytes : length (recordBytes g) ≤ 3 * n
+  pub record-bytes : length (recordBytes g) ≤ 3 * length n
   unfolding recordOf entries
   record-bytes =
       omega (arith, concatMap-length bytesOf (recordOf g), sum-map-most (λ x. length (bytesOf x)) 3 (recordOf g) (λ x m. few-bytes x (all-mem (whole .small) x m)), whole .count)

@@ -10,7 +10,7 @@ use Rattle.guard.specs.Guard.{Guard}
 use Rattle.guard.specs.Limits.{Limits, Supported}
 use Rattle.guard.specs.Meaning.{Satisfiable}
 use Rattle.guard.specs.Number.{Parsed.accepted, Parsed.refused, andThen}
-use Rattle.guard.specs.Search.{Visits.closed, nodeCount, searchOf, visits}
+use Rattle.guard.specs.Search.{Visit, Visits.closed, nodeCount, searchOf, visits}
 use Rattle.guard.specs.Terms.{tableOf}
 use Rattle.guard.proofs.Claims.{Accepts, accepts-all, well-formed}
 use Rattle.refutations.specs.Checker.{check, checkFrom, checked, noMore}
@@ -46,7 +46,7 @@ accepted-ended g bs u rest e = let (v, mid, p, q) = bind-inv (checkFrom (tableOf
     last [] q = refl
     last (b ∷ bs) q = absurd (not-accepted 13 u rest q)
 
-module _ (limits : Limits) (bytes : List ℕ) (g : Guard) (a : Accepts limits bytes g) (n : ℕ) (e : searchOf g ≡ closed n) where
+module _ (limits : Limits) (bytes : List ℕ) (g : Guard) (a : Accepts limits bytes g) (n : List Visit) (e : searchOf g ≡ closed n) where
   -- "Every record that call writes is accepted"
   pub record-checked : checked limits bytes (recordBytes g) ≡ accepted tt []
   record-checked = file-taken limits bytes (recordBytes g) g a ∙ record-accepted limits (a .supported) g (well-formed limits bytes g a) n e

@@ -33,7 +33,7 @@ use Rattle.given.specs.Given.{givenBy}
 use Rattle.given.proofs.GivenLaws.{begin-reached, begin-says, givenOf}
 use Rattle.nodes.proofs.NodeLaws.{few-lines, lines-fit}
 use Rattle.search.specs.declared.Outcome.{Outcome}
-use Rattle.search.specs.Outcome.{isOpenOutcome}
+use Rattle.search.specs.Outcome.{begin, isOpenOutcome}
 use Rattle.search.specs.Nodes.{Accepted, ArraysFit, ArraysOf, Begun, NodeLiterals.atRoot, Searches, StateFit}
 use Rattle.roots.specs.Roots.{ClearedUnlessOpen, Finds}
 use Rattle.search.proofs.Decisions.{fit-add}
@@ -124,7 +124,7 @@ fit-root tables p s e = subst StateFit (sym e) (fit-adds (givenIn tables p) (fir
 
 pub found : (tables : Tables) (budget : ℕ) (r : Outcome) (s : State) (classes labels : List ℕ) (p : Problem) → p ≡ problemBy tables
     → s ≡ foldl add (first 96) (givenIn tables p)
-    → Searches (p .shapes) (p .reads) (p .sorts) (p .full) (p .fieldless) (p .constants) (tables .rows .values) (tables .literals .kinds) (tables .literals .terms) (tables .literals .others) (tables .literals .many) budget s r (state classes labels)
+    → Searches (p .shapes) (p .reads) (p .sorts) (p .full) (p .fieldless) (p .constants) (tables .rows .values) (tables .literals .kinds) (tables .literals .terms) (tables .literals .others) (tables .literals .many) (begin budget) s r (state classes labels)
     → Finds tables budget r classes labels
 unfolding Finds Searches searchOf
 found tables budget r s classes labels p ep es h g ok is = h g (g .literals) ok (arrays-of tables p ep g ok is) (root-begun tables p ep g ok is s es)

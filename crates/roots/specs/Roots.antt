@@ -11,7 +11,8 @@ use Rattle.reader.specs.declared.Tables.{Tables}
 use Rattle.reader.specs.Reader.{guardTables}
 use Rattle.classes.specs.Held.{state}
 use Rattle.search.specs.declared.Outcome.{Outcome}
-use Rattle.search.specs.Outcome.{isOpenOutcome, outcome}
+use Rattle.search.specs.declared.Tally.{Tally}
+use Rattle.search.specs.Outcome.{begin, isOpenOutcome, outcome}
 use Rattle.search.specs.Nodes.{Accepted, OpenLeaf}
 
 -- the tables are those of a guard that a reader took
@@ -24,7 +25,7 @@ pub record GuardsTables (tables : Tables) : Type 0 where
 unfoldable pub Finds : Tables → ℕ → Outcome → List ℕ → List ℕ → Type 0
 Finds tables budget r classes labels =
     (g : Guard) → Accepted g → tables ≡ guardTables g
-    → (r ≡ outcome (searchOf g) budget) × ((n : ℕ) → r ≡ Outcome.Open n → OpenLeaf g (state classes labels))
+    → (r ≡ outcome (searchOf g) (begin budget)) × ((t : Tally) → r ≡ Outcome.Open t → OpenLeaf g (state classes labels))
 
 unfoldable pub ClearedUnlessOpen : Outcome → List ℕ → List ℕ → Type 0
 ClearedUnlessOpen r classes labels = isOpenOutcome r ≡ false → (classes ≡ replicate 96 0) × (labels ≡ replicate 96 0)

@@ -2,6 +2,7 @@
 use problem::Problem;
 use reader::Tables;
 use search::Outcome;
+use search::Tally;
 use search::visit;
 ghost use mathlib.Core.Path.{_≡_};
 ghost use Rattle.problem.specs.Columns.{problemBy};
@@ -13,9 +14,9 @@ fn is_open(o: Outcome) -> bool
     ensures { λ r. ⌜ r ≡ isOpenOutcome o ⌝ }
 {
     match o {
-        Outcome::Open(n) => true,
-        Outcome::Closed(n) => false,
-        Outcome::Spent => false,
+        Outcome::Open(t) => true,
+        Outcome::Closed(t) => false,
+        Outcome::Spent(t) => false,
     }
 }
 
@@ -64,6 +65,11 @@ pub fn search_guard(
         &others,
         many,
     );
+    let tally = Tally {
+        left: budget,
+        first: 0,
+        second: 0,
+    };
     let r = visit(
         classes,
         labels,
@@ -80,7 +86,7 @@ pub fn search_guard(
         &terms,
         &others,
         many,
-        budget,
+        tally,
     );
     if !is_open(r) {
         *classes = [0u8; 96];

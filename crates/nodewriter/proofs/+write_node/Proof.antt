@@ -11,7 +11,7 @@ use Rattle.guard.specs.Closure.{Fact.within, State, add}
 use Rattle.classes.specs.Held.{state}
 use Rattle.passes.proofs.PassLaws.{steps-keep}
 use Rattle.arrays.specs.Slots.{ReadsFit}
-use Rattle.splits.specs.Choice.{splitBy}
+use Rattle.splits.specs.Choice.{firstBy, splitBy}
 use Rattle.search.specs.Nodes.{StateFit}
 use Rattle.search.proofs.Decisions.{bit-most, decision, fit-add, fit-steps, is-child, is-decided, is-falls, isnt-child, isnt-falls, term-small, variant-small}
 use Rattle.search.proofs.VisitLaws.{no-choice}
@@ -134,7 +134,7 @@ write-node-returns-2 t c =
     let cl = else .before .before in
     let st = start t (cl .before .before .before) in
     let a = st .args in
-    (open-node (looked t cl) (else .if1 .left) (no-choice (sp .split .result) (splitBy (a .reads .now) (a .sorts .now) (a .fieldless .now) (after t (cl .before .before .before))) (sp .split .ensures) (not-true _ (c .if2 .taken))) (a .out .now) (a .at) (st .pre .1 .1 .1), λ _. st .pre .1 .1 .1)
+    (open-node (looked t cl) (else .if1 .left) (no-choice (sp .split .result) (firstBy (a .reads .now) (after t (cl .before .before .before))) (splitBy (a .reads .now) (a .sorts .now) (a .fieldless .now) (after t (cl .before .before .before))) (sp .split .ensures) (not-true _ (c .if2 .taken))) (a .out .now) (a .at) (st .pre .1 .1 .1), λ _. st .pre .1 .1 .1)
 
 -- ---- a split
 
