@@ -9,6 +9,7 @@ use Rattle.guard.specs.Answer.{outcomeOf, rowsOf}
 use Rattle.guard.specs.Closure.{State}
 use Rattle.guard.specs.Guard.{Guard}
 use Rattle.guard.specs.Limits.{base}
+use Rattle.guard.specs.Search.{Counts}
 use Rattle.guard.specs.Shown.{Shows}
 use Rattle.guard.specs.declared.Answer.the-variants.{Sat}
 use Rattle.tables.specs.Layout.{rowTable}
@@ -69,9 +70,9 @@ module _ (tables : Tables) (s : State) (rows places : List ℤ) (n : ℕ) (rows�
       (zero-back (4 * n) rows₁ rows-within)
       (subst (λ (k : ℕ). drop k shownPlaces ≡ replicate (length shownPlaces - k) (pos 0)) many (zero-back (tables .rows .many) places₁ terms-within))
 
-  open-zeroed : (nodes : ℕ) → AnswersOpen tables s nodes rows places (Sat nodes n) shownRows shownPlaces
+  open-zeroed : (c : Counts) → AnswersOpen tables s c rows places (Sat (c .nodes) (c .first) (c .second) n) shownRows shownPlaces
   unfolding outcomeOf rowsOf
-  open-zeroed nodes =
+  open-zeroed c =
       record {
         says = refl;
         longRows = zero-length (4 * n) rows₁ rows-within ∙ drawn .longRows;
@@ -80,13 +81,13 @@ module _ (tables : Tables) (s : State) (rows places : List ℤ) (n : ℕ) (rows�
       }
 
   -- the parts past the last row and the last place were lent, and came back as zeros
-  module _ (nodes : ℕ) (ys zs : List ℤ) (rowsCleared : ys ≡ replicate (length (take (length rows₁ - 4 * n) (drop (4 * n) rows₁))) (pos 0))
+  module _ (c : Counts) (ys zs : List ℤ) (rowsCleared : ys ≡ replicate (length (take (length rows₁ - 4 * n) (drop (4 * n) rows₁))) (pos 0))
       (placesCleared : zs ≡ replicate (length (take (length places₁ - tables .rows .many) (drop (tables .rows .many) places₁))) (pos 0)) where
     abbrev Answered : List ℤ → List ℤ → Type 0
-    Answered = AnswersOpen tables s nodes rows places (Sat nodes n)
+    Answered = AnswersOpen tables s c rows places (Sat (c .nodes) (c .first) (c .second) n)
 
     pub open-answered : Answered (take (4 * n) rows₁ ++ (ys ++ drop (length rows₁ - 4 * n) (drop (4 * n) rows₁)))
         (take (tables .rows .many) places₁ ++ (zs ++ drop (length places₁ - tables .rows .many) (drop (tables .rows .many) places₁)))
     open-answered =
         subst (λ (rs : List ℤ). Answered rs (take (tables .rows .many) places₁ ++ (zs ++ drop (length places₁ - tables .rows .many) (drop (tables .rows .many) places₁))))
-        (sym (part-cleared (4 * n) rows₁ ys rowsCleared)) (subst (Answered shownRows) (sym (part-cleared (tables .rows .many) places₁ zs placesCleared)) (open-zeroed nodes))
+        (sym (part-cleared (4 * n) rows₁ ys rowsCleared)) (subst (Answered shownRows) (sym (part-cleared (tables .rows .many) places₁ zs placesCleared)) (open-zeroed c))

@@ -11,7 +11,7 @@ ghost use Rattle.classes.specs.Held.{Held, state};
 ghost use Rattle.messages.specs.Messages.{OpenTables};
 ghost use Rattle.openanswer.specs.Open.{AnswersOpen};
 
-// The answer at an open node that the search found with so many nodes: messages are drawn, and what lies past the last
+// The answer at an open node that the search found with so many nodes and splits: messages are drawn, and what lies past the last
 // row and the last place is cleared.
 pub fn answer_open(
     tables: Tables,
@@ -19,6 +19,8 @@ pub fn answer_open(
     classes: &[u8; 96],
     labels: &[u16; 96],
     nodes: u32,
+    first: u32,
+    second: u32,
     rows: &mut [i32],
     places: &mut [i32],
 ) -> Answer
@@ -27,7 +29,7 @@ pub fn answer_open(
     requires { ⌜ Held (now classes) ⌝ }
     requires { ⌜ 16384 ≤ length (now rows) ⌝ }
     requires { ⌜ 24 ≤ length (now places) ⌝ }
-    ensures { λ r. ⌜ AnswersOpen tables (state (now (classes .entry)) (now (labels .entry))) nodes (now (rows .entry)) (now (places .entry)) r (now (rows .exit)) (now (places .exit)) ⌝ }
+    ensures { λ r. ⌜ AnswersOpen tables (state (now (classes .entry)) (now (labels .entry))) (record { nodes = nodes; first = first; second = second }) (now (rows .entry)) (now (places .entry)) r (now (rows .exit)) (now (places .exit)) ⌝ }
 {
     let n = messages::draw(tables, problem, classes, labels, rows, places);
     let last = 4 * n;
@@ -36,5 +38,10 @@ pub fn answer_open(
     let terms = table.many;
     clear(&mut places[terms..]);
     let many = n as u32;
-    Answer::Sat { nodes, rows: many }
+    Answer::Sat {
+        nodes: nodes,
+        first_splits: first,
+        second_splits: second,
+        rows: many,
+    }
 }

@@ -5,11 +5,11 @@ use mathlib.Core.List.{List}
 use mathlib.Core.Logic.{_⊎_, inl, inr}
 use Prim.Native.Nat.{ℕ, _+_, _-_, _≤_, _<_}
 use native.Mathlib.Omega.{arith}
-use lib.ListN.{take}
-use lib.Seq.{take-all}
+use lib.ListN.{length, take}
+use lib.Seq.{length-take-le, take-all}
 use Rattle.guard.specs.Guard.{Guard}
 use Rattle.guard.specs.Node.{Kind.first, Kind.second}
-use Rattle.guard.specs.Search.{Visit, Visits, Visits.closed, Visits.opened, nodeCount, searchOf, splitsIn, visited, visits}
+use Rattle.guard.specs.Search.{Counts, Visit, Visits, Visits.closed, Visits.opened, countsOf, nodeCount, searchOf, splitsIn, visited, visits}
 use Rattle.search.specs.declared.Outcome.{Outcome}
 use Rattle.search.specs.declared.Tally.{Tally}
 use Rattle.search.specs.Outcome.{after, begin, outcome}
@@ -21,6 +21,20 @@ pub record Within (budget : ℕ) (xs : List Visit) (t : Tally) : Type 0 where
   pub left : t .left ≡ budget - visits (closed xs)
   pub first : t .first ≡ splitsIn first xs
   pub second : t .second ≡ splitsIn second xs
+
+same-counts : {n n′ f f′ s s′ : ℕ} → n ≡ n′ → f ≡ f′ → s ≡ s′ → _≡_ {A = Counts} (record { nodes = n; first = f; second = s }) (record { nodes = n′; first = f′; second = s′ })
+same-counts p q r = rw (p, q, r) refl
+
+-- the counts of an answer, from what is left and what was made
+module _ (budget : ℕ) (xs : List Visit) (t : Tally) where
+  pub within-counts : Within budget xs t → record { nodes = budget - t .left; first = t .first; second = t .second } ≡ countsOf xs
+  within-counts w =
+      let nodes : budget - t .left ≡ length xs = omega (arith, w .enough, w .left) in
+      same-counts nodes (w .first) (w .second)
+
+  pub cut-counts : budget < length xs → t ≡ after xs (begin budget) → record { nodes = budget; first = t .first; second = t .second } ≡ countsOf (take budget xs)
+  cut-counts h e =
+      same-counts (sym (length-take-le budget xs (omega arith))) (ap (λ (u : Tally). u .first) e ∙ omega arith) (ap (λ (u : Tally). u .second) e ∙ omega arith)
 
 module _ (budget : ℕ) where
   within : (xs : List Visit) (t : Tally) → visits (closed xs) ≤ budget → after xs (begin budget) ≡ t → Within budget xs t

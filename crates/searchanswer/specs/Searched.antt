@@ -7,7 +7,7 @@ use lib.ListN.{length, replicate}
 use Rattle.guard.specs.Answer.{Outcome.sat, outcomeOf, rowsOf, withBudget}
 use Rattle.guard.specs.Guard.{Guard}
 use Rattle.guard.specs.Limits.{base}
-use Rattle.guard.specs.Search.{searchOf}
+use Rattle.guard.specs.Search.{Counts, searchOf}
 use Rattle.guard.specs.Shown.{Shows}
 use Rattle.guard.specs.declared.Answer.{Answer}
 use Rattle.reader.specs.Reader.{guardTables}
@@ -19,5 +19,5 @@ pub record AnswersTables (tables : Tables) (budget : ℕ) (rows places : List �
   pub says : (g : Guard) → Accepted g → tables ≡ guardTables g → outcomeOf r ≡ withBudget budget (searchOf g)
   pub longRows : length rows′ ≡ length rows
   pub longPlaces : length places′ ≡ length places
-  pub cleared : ((n : ℕ) → ¬ (outcomeOf r ≡ sat n)) → (rows′ ≡ replicate (length rows) (pos 0)) × (places′ ≡ replicate (length places) (pos 0))
-  pub shown : (g : Guard) → Accepted g → tables ≡ guardTables g → (n : ℕ) → outcomeOf r ≡ sat n → Shows base g (rowsOf r) rows′ places′
+  pub cleared : ((n : Counts) → ¬ (outcomeOf r ≡ sat n)) → (rows′ ≡ replicate (length rows) (pos 0)) × (places′ ≡ replicate (length places) (pos 0))
+  pub shown : (g : Guard) → Accepted g → tables ≡ guardTables g → (n : Counts) → outcomeOf r ≡ sat n → Shows base g (rowsOf r) rows′ places′

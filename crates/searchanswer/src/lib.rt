@@ -21,25 +21,35 @@ pub fn answer_search(tables: Tables, budget: u32, rows: &mut [i32], places: &mut
     let mut labels = [0u16; 96];
     let o = rootsearch::search_guard(tables, problem, budget, &mut classes, &mut labels);
     match o {
-        Outcome::Open(left) => {
+        Outcome::Open(t) => {
             answer_open(
                 tables,
                 problem,
                 &classes,
                 &labels,
-                budget - left,
+                budget - t.left,
+                t.first,
+                t.second,
                 rows,
                 places,
             )
         }
-        Outcome::Closed(left) => {
-            let nodes = budget - left;
+        Outcome::Closed(t) => {
+            let nodes = budget - t.left;
             clear_both(rows, places);
-            Answer::Unsat { nodes }
+            Answer::Unsat {
+                nodes: nodes,
+                first_splits: t.first,
+                second_splits: t.second,
+            }
         }
-        Outcome::Spent => {
+        Outcome::Spent(t) => {
             clear_both(rows, places);
-            Answer::Spent { budget }
+            Answer::Spent {
+                budget: budget,
+                first_splits: t.first,
+                second_splits: t.second,
+            }
         }
     }
 }

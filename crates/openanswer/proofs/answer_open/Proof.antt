@@ -65,7 +65,7 @@ returns : tie.Need-returns
 returns c =
     let start = c .before .before .before .before .before .before .before .before .before .before .before .before in
     let drawn = c .before .before .before .before .before .before .before .before .before .draw in
-    open-answered (start .args .tables) (state (start .args .classes .now) (start .args .labels .now)) (start .args .rows .now) (start .args .places .now) (drawn .result) (drawn .last .1 .1 .1 .1 .0) (drawn .last .1 .1 .1 .1 .1 .0) (drawn .ensures) (start .pre .0) (start .pre .1 .1 .1 .0) (start .pre .1 .1 .1 .1) (start .args .nodes)
+    open-answered (start .args .tables) (state (start .args .classes .now) (start .args .labels .now)) (start .args .rows .now) (start .args .places .now) (drawn .result) (drawn .last .1 .1 .1 .1 .0) (drawn .last .1 .1 .1 .1 .1 .0) (drawn .ensures) (start .pre .0) (start .pre .1 .1 .1 .0) (start .pre .1 .1 .1 .1) (record { nodes = start .args .nodes; first = start .args .first; second = start .args .second })
     (c .before .before .before .before .before .clear .last .0) (c .before .clear2 .last .0) (c .before .before .before .before .before .clear .ensures) (c .before .clear2 .ensures)
 
 pub answer-open-spec : {M : Type 1} → statement M
