@@ -1,5 +1,5 @@
 -- The answer to a file, from the questions and the answer to its tables. Assumes nothing.
-use mathlib.Core.Path.{_≡_, ap, sym, _∙_}
+use mathlib.Core.Path.{_≡_, refl, ap, sym, _∙_}
 use mathlib.Core.Bool.{Bool, true, false, _&&_}
 use mathlib.Core.List.{List}
 use Prim.Native.Nat.{ℕ, _≤_, _<_}
@@ -9,13 +9,13 @@ use lib.IntN.{ℤ, pos}
 use lib.ListN.{length, replicate}
 use borrow.Author.Tests.{leb-false, leb-true, lt-leb}
 use Rattle.laws.proofs.Bools.{by-test}
-use Rattle.guard.specs.Answer.{Outcome, Outcome.refusal, Outcome.sat, Outcome.spent, Outcome.unsat, afterBuffers, afterQuestions, outcome, outcomeOf, questions, verdict, withBudget}
+use Rattle.guard.specs.Answer.{Outcome, Outcome.refusal, Outcome.sat, Outcome.unsat, afterBuffers, afterQuestions, cutOff, outcome, outcomeOf, questions, verdict, withBudget}
 use Rattle.guard.specs.File.{file}
 use Rattle.guard.specs.Guard.{Guard}
 use Rattle.guard.specs.Limits.{base, placeBuffer, rowBuffer}
 use Rattle.guard.specs.Meaning.{Satisfiable}
 use Rattle.guard.specs.Number.{Parsed.accepted, Parsed.refused}
-use Rattle.guard.specs.Search.{Visits, Visits.closed, Visits.opened, searchOf, visits}
+use Rattle.guard.specs.Search.{Counts, Visit, Visits, Visits.closed, Visits.opened, countsOf, searchOf, visits}
 use Rattle.guard.specs.declared.Answer.{Answer}
 use Rattle.guard.specs.declared.Answer.the-variants.{Refused}
 use Rattle.guard.proofs.AnswerLaws.{enough, long-buffers, too-few}
@@ -31,28 +31,32 @@ use Rattle.roots.proofs.TablesRead.{guard-accepted, guard-tables, refused-file,
 -- ---- verdicts and visits
 
 -- an answer that is not SPENT is the verdict, within the budget
-not-spent : (budget : ℕ) (w : Visits) (want : Outcome) → ¬ (spent budget ≡ want) → withBudget budget w ≡ want → (verdict w ≡ want) × (visits w ≤ budget)
+not-spent : (budget : ℕ) (w : Visits) (want : Outcome) → ¬ (cutOff budget w ≡ want) → withBudget budget w ≡ want → (verdict w ≡ want) × (visits w ≤ budget)
 not-spent budget w want n e =
     by-test (leb (visits w) budget) (λ b. let l : visits w ≤ budget = leb-true (visits w) budget b in (sym (enough budget w l) ∙ e, l))
     (λ b. absurd (n (sym (too-few budget w (leb-false (visits w) budget b)) ∙ e)))
 
-pub sat-opened : (budget : ℕ) (w : Visits) (n : ℕ) → withBudget budget w ≡ sat n → (w ≡ opened n) × (visits w ≤ budget)
-sat-opened budget w n e =
-    let (v, l) = not-spent budget w (sat n) (λ s. let z : _≡_ {A = ℕ} 0 1 = cc in omega arith) e in
-    (go w v, l)
-  where
-    go : (w : Visits) → verdict w ≡ sat n → w ≡ opened n
-    go (opened m) e = cc
-    go (closed m) e = let z : _≡_ {A = ℕ} 0 1 = cc in absurd (omega arith)
+-- a search that ended open, or closed, with these counts
+abbrev pub Ended : (List Visit → Visits) → Visits → Counts → Type 0
+Ended make w c = (xs : List Visit) × (w ≡ make xs) × (countsOf xs ≡ c)
 
-pub unsat-closed : (budget : ℕ) (w : Visits) (n : ℕ) → withBudget budget w ≡ unsat n → (w ≡ closed n) × (visits w ≤ budget)
-unsat-closed budget w n e =
-    let (v, l) = not-spent budget w (unsat n) (λ s. let z : _≡_ {A = ℕ} 0 1 = cc in omega arith) e in
+pub sat-opened : (budget : ℕ) (w : Visits) (c : Counts) → withBudget budget w ≡ sat c → Ended opened w c × (visits w ≤ budget)
+sat-opened budget w c e =
+    let (v, l) = not-spent budget w (sat c) (λ s. let z : _≡_ {A = ℕ} 0 1 = cc in omega arith) e in
     (go w v, l)
   where
-    go : (w : Visits) → verdict w ≡ unsat n → w ≡ closed n
-    go (closed m) e = cc
-    go (opened m) e = let z : _≡_ {A = ℕ} 0 1 = cc in absurd (omega arith)
+    go : (w : Visits) → verdict w ≡ sat c → Ended opened w c
+    go (opened xs) e = (xs, refl, cc)
+    go (closed xs) e = let z : _≡_ {A = ℕ} 0 1 = cc in absurd (omega arith)
+
+pub unsat-closed : (budget : ℕ) (w : Visits) (c : Counts) → withBudget budget w ≡ unsat c → Ended closed w c × (visits w ≤ budget)
+unsat-closed budget w c e =
+    let (v, l) = not-spent budget w (unsat c) (λ s. let z : _≡_ {A = ℕ} 0 1 = cc in omega arith) e in
+    (go w v, l)
+  where
+    go : (w : Visits) → verdict w ≡ unsat c → Ended closed w c
+    go (closed xs) e = (xs, refl, cc)
+    go (opened xs) e = let z : _≡_ {A = ℕ} 0 1 = cc in absurd (omega arith)
 
 pub never-refused : (budget : ℕ) (w : Visits) (q : ℕ) → ¬ (withBudget budget w ≡ refusal q)
 never-refused budget w q e = go w (not-spent budget w (refusal q) (λ s. let z : _≡_ {A = ℕ} 0 1 = cc in omega arith) e .0)
@@ -120,8 +124,10 @@ module _ (bytes : List ℕ) (budget : ℕ) (rows places rows′ places′ : List
           let (g, rest, e) = taken-file base base-supported bytes t is taken in
           answer-of g rest e ∙ sym (ap (afterQuestions budget) (same-questions ∙ e))
 
-      none-hold : (g : Guard) (rest : List ℕ) → file base bytes ≡ accepted g rest → (n : ℕ) → outcomeOf r ≡ unsat n → ¬ Satisfiable g
-      none-hold g rest e n h = closed-unsatisfiable base bytes g (accepts-all base bytes g rest base-supported e) n (unsat-closed budget (searchOf g) n (sym (answer-of g rest e) ∙ h) .0)
+      none-hold : (g : Guard) (rest : List ℕ) → file base bytes ≡ accepted g rest → (c : Counts) → outcomeOf r ≡ unsat c → ¬ Satisfiable g
+      none-hold g rest e c h =
+          let ((xs, w, _), _) = unsat-closed budget (searchOf g) c (sym (answer-of g rest e) ∙ h) in
+          closed-unsatisfiable base bytes g (accepts-all base bytes g rest base-supported e) xs w
 
       pub tables-decide : Decides base bytes budget rows places r rows′ places′
       tables-decide =
