@@ -14,7 +14,7 @@ use Rattle.guard.specs.Answer.{Outcome, Outcome.refusal, Outcome.sat, Outcome.s
 use Rattle.guard.specs.Guard.{Guard}
 use Rattle.guard.specs.Limits.{base}
 use Rattle.guard.specs.Number.{Parsed, Parsed.accepted, Parsed.refused}
-use Rattle.guard.specs.Search.{nodeCount, searchOf}
+use Rattle.guard.specs.Search.{Counts, nodeCount, searchOf}
 use Rattle.guard.proofs.Claims.{accepts-all, base-supported}
 use Rattle.refutations.specs.Checker.{checked}
 use Rattle.refutations.specs.Record.{recordBytes}
@@ -24,7 +24,7 @@ use Rattle.explain.specs.declared.Explained.{Explained}
 use Rattle.explain.specs.Explains.{Explains, askRecord, explained, explainedBy, recordAfter, recordBy, recorded}
 
 -- after UNSAT the desk said so too, and the record is the guard's
-unsat-asked : (room : ℕ) (g : Guard) (o : Outcome) (n : ℕ) → askRecord room g o ≡ unsat n → (o ≡ unsat n) × (recordAfter g (askRecord room g o) ≡ recordBytes g)
+unsat-asked : (room : ℕ) (g : Guard) (o : Outcome) (n : Counts) → askRecord room g o ≡ unsat n → (o ≡ unsat n) × (recordAfter g (askRecord room g o) ≡ recordBytes g)
 unsat-asked room g (refusal q) n e = let z : _≡_ {A = ℕ} 0 1 = cc in absurd (omega arith)
 unsat-asked room g (sat m) n e = let z : _≡_ {A = ℕ} 0 1 = cc in absurd (omega arith)
 unsat-asked room g (unsat m) n e = go (leb (length (recordBytes g)) room) e
@@ -35,7 +35,7 @@ unsat-asked room g (unsat m) n e = go (leb (length (recordBytes g)) room) e
 unsat-asked room g (spent b) n e = let z : _≡_ {A = ℕ} 0 1 = cc in absurd (omega arith)
 
 -- with room enough after UNSAT the answer is the desk's
-room-enough : (room : ℕ) (g : Guard) (o : Outcome) → ((n : ℕ) → o ≡ unsat n → leb (length (recordBytes g)) room ≡ true) → askRecord room g o ≡ o
+room-enough : (room : ℕ) (g : Guard) (o : Outcome) → ((n : Counts) → o ≡ unsat n → leb (length (recordBytes g)) room ≡ true) → askRecord room g o ≡ o
 room-enough room g (refusal q) h = refl
 room-enough room g (sat m) h = refl
 room-enough room g (unsat m) h = ap (λ (b : Bool). cond b (unsat m) (refusal 11)) (h m refl)
@@ -56,15 +56,16 @@ module _ {bytes : List ℕ} {budget : ℕ} {rows places : List ℤ} {lent : List
   front = ap₂ (λ (k : ℕ) (bs : List ℕ). take k bs) (x .many) (x .written) ∙ take-at (recordBy budget (length lent) asks) _ (length (recordBy budget (length lent) asks)) refl
 
   -- "Every record that call writes is accepted"
-  pub record-accepted : (n : ℕ) → outcomeOf (r .answer) ≡ unsat n → checked base bytes (take (r .bytes) lent′) ≡ accepted tt []
+  pub record-accepted : (n : Counts) → outcomeOf (r .answer) ≡ unsat n → checked base bytes (take (r .bytes) lent′) ≡ accepted tt []
   record-accepted n e = ap (checked base bytes) front ∙ go asks refl (sym answers ∙ e)
     where
       go : (p : Parsed Guard) → asks ≡ p → explainedBy budget (length lent) p ≡ unsat n → checked base bytes (recordBy budget (length lent) p) ≡ accepted tt []
       go (refused q) k u = let z : _≡_ {A = ℕ} 0 1 = cc in absurd (omega arith)
       go (accepted g rest) k u =
           let (o, w) = unsat-asked (length lent) g (withBudget budget (searchOf g)) n u in
+          let ends = unsat-closed budget (searchOf g) n o .0 in
           let taken = questions-file bytes (length rows) (length places) g rest k in
-          ap (checked base bytes) w ∙ record-checked base bytes g (accepts-all base bytes g rest base-supported taken) n (unsat-closed budget (searchOf g) n o .0)
+          ap (checked base bytes) w ∙ record-checked base bytes g (accepts-all base bytes g rest base-supported taken) (ends .0) (ends .1)
 
   -- "for it the rules on files taken and on budgets suppose a record buffer long enough": three bytes for each node are
   pub as-the-desk : (g : Guard) (rest : List ℕ) → questions base bytes (length rows) (length places) ≡ accepted g rest → 3 * nodeCount g ≤ length lent
@@ -74,7 +75,8 @@ module _ {bytes : List ℕ} {budget : ℕ} {rows places : List ℤ} {lent : List
       answers ∙ ap (explainedBy budget (length lent)) k
       ∙ room-enough (length lent) g (withBudget budget (searchOf g)) enough ∙ sym (ap (afterQuestions budget) k)
     where
-      enough : (n : ℕ) → withBudget budget (searchOf g) ≡ unsat n → leb (length (recordBytes g)) (length lent) ≡ true
+      enough : (n : Counts) → withBudget budget (searchOf g) ≡ unsat n → leb (length (recordBytes g)) (length lent) ≡ true
       enough n o =
           let taken = questions-file bytes (length rows) (length places) g rest k in
-          le-leb (length (recordBytes g)) (length lent) (omega (arith, h, at-most-three base bytes g (accepts-all base bytes g rest base-supported taken) n (unsat-closed budget (searchOf g) n o .0)))
+          let ends = unsat-closed budget (searchOf g) n o .0 in
+          le-leb (length (recordBytes g)) (length lent) (omega (arith, h, at-most-three base bytes g (accepts-all base bytes g rest base-supported taken) (ends .0) (ends .1)))

@@ -12,7 +12,7 @@ use Rattle.guard.specs.File.{file}
 use Rattle.guard.specs.Guard.{Guard}
 use Rattle.guard.specs.Limits.{base}
 use Rattle.guard.specs.Number.{Parsed, Parsed.accepted, Parsed.refused}
-use Rattle.guard.specs.Search.{searchOf}
+use Rattle.guard.specs.Search.{Counts, searchOf}
 use Rattle.guard.specs.declared.Answer.{Answer}
 use Rattle.guard.specs.declared.Answer.the-variants.{Refused, Sat, Unsat, Spent}
 use Rattle.guard.proofs.Claims.{base-supported}
@@ -55,9 +55,9 @@ closes (spent b) = false
 same-test : (a : Answer) → closes (outcomeOf a) ≡ isUnsat a
 unfolding outcomeOf
 same-test (Refused q) = refl
-same-test (Sat n r) = refl
-same-test (Unsat n) = refl
-same-test (Spent b) = refl
+same-test (Sat n f s r) = refl
+same-test (Unsat n f s) = refl
+same-test (Spent b f s) = refl
 
 not-asked : (room : ℕ) (g : Guard) (o : Outcome) → closes o ≡ false → (askRecord room g o ≡ o) × (recordAfter g (askRecord room g o) ≡ [])
 not-asked room g (refusal q) e = (refl, refl)
@@ -75,29 +75,29 @@ as-decided budget room (accepted g rest) e = not-asked room g (withBudget budget
 record Closed (budget : ℕ) (p : Parsed Guard) (o : Outcome) : Type 0 where
   guard : Guard
   rest : List ℕ
-  nodes : ℕ
+  counts : Counts
   is : p ≡ accepted guard rest
-  ends : withBudget budget (searchOf guard) ≡ unsat nodes
-  answer : o ≡ unsat nodes
+  ends : withBudget budget (searchOf guard) ≡ unsat counts
+  answer : o ≡ unsat counts
 
 closed-guard : (budget : ℕ) (p : Parsed Guard) (o : Outcome) → o ≡ afterQuestions budget p → closes o ≡ true → Closed budget p o
 closed-guard budget p (refusal q) e u = absurd (false≢true u)
 closed-guard budget p (sat n) e u = absurd (false≢true u)
 closed-guard budget p (spent b) e u = absurd (false≢true u)
 closed-guard budget (refused q) (unsat n) e u = let z : _≡_ {A = ℕ} 0 1 = cc in absurd (omega arith)
-closed-guard budget (accepted g rest) (unsat n) e u = record { guard = g; rest = rest; nodes = n; is = refl; ends = sym e; answer = refl }
+closed-guard budget (accepted g rest) (unsat n) e u = record { guard = g; rest = rest; counts = n; is = refl; ends = sym e; answer = refl }
 
 -- the question of the record's length
 module _ (budget room : ℕ) (p : Parsed Guard) (o : Outcome) (c : Closed budget p o) where
   asked : (b : Bool) → leb (length (recordBytes (c .guard))) room ≡ b
       → (explainedBy budget room p ≡ cond b o (refusal 11)) × (recordBy budget room p ≡ cond b (recordBytes (c .guard)) [])
   asked b q =
-      let e : askRecord room (c .guard) (withBudget budget (searchOf (c .guard))) ≡ cond b (unsat (c .nodes)) (refusal 11) = ap (askRecord room (c .guard)) (c .ends) ∙ ap (λ (b : Bool). cond b (unsat (c .nodes)) (refusal 11)) q in (
+      let e : askRecord room (c .guard) (withBudget budget (searchOf (c .guard))) ≡ cond b (unsat (c .counts)) (refusal 11) = ap (askRecord room (c .guard)) (c .ends) ∙ ap (λ (b : Bool). cond b (unsat (c .counts)) (refusal 11)) q in (
         ap (explainedBy budget room) (c .is) ∙ e ∙ ap (λ (x : Outcome). cond b x (refusal 11)) (sym (c .answer)),
         ap (recordBy budget room) (c .is) ∙ ap (recordAfter (c .guard)) e ∙ go b,
       )
     where
-      go : (b : Bool) → recordAfter (c .guard) (cond b (unsat (c .nodes)) (refusal 11)) ≡ cond b (recordBytes (c .guard)) []
+      go : (b : Bool) → recordAfter (c .guard) (cond b (unsat (c .counts)) (refusal 11)) ≡ cond b (recordBytes (c .guard)) []
       go true = refl
       go false = refl
 
@@ -181,10 +181,10 @@ module _ {bytes : List ℕ} {budget : ℕ} {rows places : List ℤ} (lent : List
             written = is-left ∙ filled-none own (length lent) room ∙ no-bytes (length lent) ∙ ap (λ (bs : List ℕ). padded bs (length lent)) (sym x);
             longRows = d .longRows;
             longPlaces = d .longPlaces;
-            cleared = λ f. d .cleared (λ n e. differ n (closed .nodes) (sym e ∙ closed .answer));
+            cleared = λ f. d .cleared (λ n e. differ n (closed .counts) (sym e ∙ closed .answer));
             shown = λ g rest k n e. let z : _≡_ {A = ℕ} 0 1 = cc in absurd (omega arith);
             dead = λ g rest k n e. let z : _≡_ {A = ℕ} 0 1 = cc in absurd (omega arith);
           }
         where
-          differ : (n m : ℕ) → ¬ (sat n ≡ unsat m)
+          differ : (n m : Counts) → ¬ (sat n ≡ unsat m)
           differ n m e = let z : _≡_ {A = ℕ} 0 1 = cc in omega arith

@@ -13,7 +13,7 @@ use Rattle.guard.specs.Guard.{Guard}
 use Rattle.guard.specs.Limits.{Limits, base}
 use Rattle.guard.specs.Meaning.{Satisfiable}
 use Rattle.guard.specs.Number.{Parsed, Parsed.accepted, Parsed.refused}
-use Rattle.guard.specs.Search.{searchOf}
+use Rattle.guard.specs.Search.{Counts, searchOf}
 use Rattle.guard.specs.Shown.{Shows}
 use Rattle.guard.specs.declared.Answer.{Answer}
 use Rattle.guard.specs.declared.Answer.the-variants.{Refused, Sat, Unsat, Spent}
@@ -72,17 +72,17 @@ pub record Explains (limits : Limits) (bytes : List ℕ) (budget : ℕ) (rows pl
   -- the other two buffers are as after the desk's one call, and after 11 all 0
   pub longRows : length rows′ ≡ length rows
   pub longPlaces : length places′ ≡ length places
-  pub cleared : ((n : ℕ) → ¬ (outcomeOf (r .answer) ≡ sat n)) → (rows′ ≡ replicate (length rows) (pos 0)) × (places′ ≡ replicate (length places) (pos 0))
-  pub shown : (g : Guard) (rest : List ℕ) → questions limits bytes (length rows) (length places) ≡ accepted g rest → (n : ℕ) → outcomeOf (r .answer) ≡ sat n → Shows limits g (rowsOf (r .answer)) rows′ places′
-  pub dead : (g : Guard) (rest : List ℕ) → questions limits bytes (length rows) (length places) ≡ accepted g rest → (n : ℕ) → outcomeOf (r .answer) ≡ unsat n → ¬ Satisfiable g
+  pub cleared : ((n : Counts) → ¬ (outcomeOf (r .answer) ≡ sat n)) → (rows′ ≡ replicate (length rows) (pos 0)) × (places′ ≡ replicate (length places) (pos 0))
+  pub shown : (g : Guard) (rest : List ℕ) → questions limits bytes (length rows) (length places) ≡ accepted g rest → (n : Counts) → outcomeOf (r .answer) ≡ sat n → Shows limits g (rowsOf (r .answer)) rows′ places′
+  pub dead : (g : Guard) (rest : List ℕ) → questions limits bytes (length rows) (length places) ≡ accepted g rest → (n : Counts) → outcomeOf (r .answer) ≡ unsat n → ¬ Satisfiable g
 
 -- ---- its parts
 
 abbrev pub isUnsat : Answer → Bool
 isUnsat (Refused q) = false
-isUnsat (Sat n r) = false
-isUnsat (Unsat n) = true
-isUnsat (Spent b) = false
+isUnsat (Sat n f s r) = false
+isUnsat (Unsat n f s) = true
+isUnsat (Spent b f s) = false
 
 -- the file is accepted
 pub record Taken (bytes : List ℕ) : Type 0 where

@@ -15,10 +15,10 @@ fn is_unsat(a: Answer) -> bool
     ensures { λ r. ⌜ r ≡ isUnsat a ⌝ }
 {
     match a {
-        Answer::Refused { question } => false,
-        Answer::Sat { nodes, rows } => false,
-        Answer::Unsat { nodes } => true,
-        Answer::Spent { budget } => false,
+        Answer::Refused { .. } => false,
+        Answer::Sat { .. } => false,
+        Answer::Unsat { .. } => true,
+        Answer::Spent { .. } => false,
     }
 }
 

@@ -37,7 +37,7 @@ returns : tie.Need-returns
 unfolding answerNumbers
 returns c =
     let start = c .before .before .before .before .before .before .before .before in
-    of-answer (start .args .answer) _ (drop 3 (start .args .numbers .now)) _ (c .before .before .before .before .before .answer .given .1) (c .before .before .put .ensures)
+    of-answer (start .args .answer) _ (drop 5 (start .args .numbers .now)) _ (c .before .before .before .before .before .answer .given .1) (c .before .before .put .ensures)
 
 same-length-2 : tie.Need-same-length-2
 same-length-2 c = search needs
@@ -46,7 +46,7 @@ returns-2 : tie.Need-returns-2
 unfolding answerNumbers
 returns-2 c =
     let start = c .before .before .before .before .before .before .before .before in
-    of-answer (start .args .answer) _ (drop 3 (start .args .numbers .now)) _ (c .before .before .before .before .before .answer2 .given .1) (c .before .before .put2 .ensures)
+    of-answer (start .args .answer) _ (drop 5 (start .args .numbers .now)) _ (c .before .before .before .before .before .answer2 .given .1) (c .before .before .put2 .ensures)
 
 same-length-3 : tie.Need-same-length-3
 same-length-3 c = search needs
@@ -55,7 +55,7 @@ returns-3 : tie.Need-returns-3
 unfolding answerNumbers
 returns-3 c =
     let start = c .before .before .before .before .before .before .before .before in
-    of-answer (start .args .answer) _ (drop 3 (start .args .numbers .now)) _ (c .before .before .before .before .before .answer3 .given .1) (c .before .before .put3 .ensures)
+    of-answer (start .args .answer) _ (drop 5 (start .args .numbers .now)) _ (c .before .before .before .before .before .answer3 .given .1) (c .before .before .put3 .ensures)
 
 same-length-4 : tie.Need-same-length-4
 same-length-4 c = search needs
@@ -64,7 +64,7 @@ returns-4 : tie.Need-returns-4
 unfolding answerNumbers
 returns-4 c =
     let start = c .before .before .before .before .before .before .before .before in
-    of-answer (start .args .answer) _ (drop 3 (start .args .numbers .now)) _ (c .before .before .before .before .before .answer4 .given .1) (c .before .before .put4 .ensures)
+    of-answer (start .args .answer) _ (drop 5 (start .args .numbers .now)) _ (c .before .before .before .before .before .answer4 .given .1) (c .before .before .put4 .ensures)
 
 pub put-answer-spec : {M : Type 1} → statement M
 put-answer-spec =
