@@ -14,7 +14,7 @@ use Rattle.rowtext.specs.Rows.{madeText, partsText, rowBy, rowLine, rowText, va
 use Rattle.answertext.specs.Text.{answerText, shownText, termLine, verdictLine}
 
 -- "For file c `guarddesk` prints exactly"
-pub text-of-c : answerText (file base fileC) (Sat 3 1) rowsC placesC ≡ ascii "SAT 3\nrow 0 type 1 variant 0\nterm 0 row 0\nterm 1 row 0\n"
+pub text-of-c : answerText (file base fileC) (Sat 3 1 0 1) rowsC placesC ≡ ascii "SAT 3\nrow 0 type 1 variant 0\nterm 0 row 0\nterm 1 row 0\n"
 unfolding answerText decimal file madeText numberText partsText rowBy rowLine rowText shownText signed termLine valueText verdictLine
 text-of-c = refl
 

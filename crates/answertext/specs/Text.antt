@@ -41,6 +41,6 @@ termsIn (refused q) = 0
 -- the verdict, and after SAT what is shown; "After the others nothing follows."
 unfoldable pub answerText : Parsed Guard → Answer → List ℤ → List ℤ → List ℕ
 answerText p (Refused q) rows places = verdictLine (ascii "REFUSED ") q
-answerText p (Sat n r) rows places = verdictLine (ascii "SAT ") n ++ shownText (typesIn p) (termsIn p) r rows places
-answerText p (Unsat n) rows places = verdictLine (ascii "UNSAT ") n
-answerText p (Spent b) rows places = verdictLine (ascii "SPENT ") b
+answerText p (Sat n f s r) rows places = verdictLine (ascii "SAT ") n ++ shownText (typesIn p) (termsIn p) r rows places
+answerText p (Unsat n f s) rows places = verdictLine (ascii "UNSAT ") n
+answerText p (Spent b f s) rows places = verdictLine (ascii "SPENT ") b

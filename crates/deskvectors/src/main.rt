@@ -50,7 +50,7 @@ fn terms(file: &[u8]) -> usize {
 
 fn check_rest(file: &[u8], answer: Answer, shown: &[i32], places: &[i32]) {
     match answer {
-        Answer::Sat { nodes: _, rows } => print_dirt(shown, places, 4 * rows as usize, terms(file)),
+        Answer::Sat { rows, .. } => print_dirt(shown, places, 4 * rows as usize, terms(file)),
         _ => print_dirt(shown, places, 0, 0),
     }
 }

@@ -1,7 +1,8 @@
 // Reads packed guard files from standard input, and prints the answer to each in a line: REFUSED with the question, or the
-// verdict with the node count.
+// verdict with the node count and the splits of either kind.
 use reader::Tables;
 use search::Outcome;
+use search::Tally;
 
 // The difference; 0 where there is none.
 fn minus(x: u32, y: u32) -> u32 {
@@ -17,11 +18,19 @@ fn print_line(name: &[u8], value: u32) {
     io::write_all(1, b"\n");
 }
 
+fn print_counts(name: &[u8], nodes: u32, t: Tally) {
+    io::write_all(1, name);
+    io::print_decimal(1, nodes as u64);
+    io::write_all(1, b" splits ");
+    io::print_decimal(1, t.first as u64);
+    print_line(b" ", t.second);
+}
+
 fn print_outcome(budget: u32, o: Outcome) {
     match o {
-        Outcome::Open(left) => print_line(b"SAT ", minus(budget, left)),
-        Outcome::Closed(left) => print_line(b"UNSAT ", minus(budget, left)),
-        Outcome::Spent => print_line(b"SPENT ", budget),
+        Outcome::Open(t) => print_counts(b"SAT ", minus(budget, t.left), t),
+        Outcome::Closed(t) => print_counts(b"UNSAT ", minus(budget, t.left), t),
+        Outcome::Spent(t) => print_counts(b"SPENT ", budget, t),
     }
 }
 
