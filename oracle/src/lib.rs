@@ -1,7 +1,7 @@
 //! A second, separately written solver for guard files.
 //!
-//! It is written from document 01 and requests #101, #102 and #104 of document
-//! 02 alone, and favours plain code over speed: the closure is saturated from
+//! It is written from document 01 and requests #101, #102, #104 and #105 of
+//! document 02 alone, and favours plain code over speed: the closure is saturated from
 //! scratch at every node of the search. It gives the expected answers of the
 //! test vectors, checks printed answers, and writes guard files from lists of
 //! numbers.
