@@ -24,19 +24,25 @@ const RECORD_FITS: u32 = 11;
 
 /// The answer that the five numbers stand for, with its number of rows. A refusal has no splits.
 fn claimed(numbers: &[u32]) -> Option<(Answer, usize)> {
-    let [verdict, nodes, rows, first, second] = numbers[..] else {
+    let [verdict, number, rows, first, second] = numbers[..] else {
         return None;
     };
     let splits = Splits { first, second };
     let answer = match verdict {
         raw::REFUSED if splits == Splits::default() => {
-            let question = (nodes as usize).checked_sub(1)?;
+            let question = (number as usize).checked_sub(1)?;
             Answer::Refused(*Question::ALL.get(question)?)
         }
-        raw::SAT => Answer::Sat { nodes, splits },
-        raw::UNSAT => Answer::Unsat { nodes, splits },
+        raw::SAT => Answer::Sat {
+            nodes: number,
+            splits,
+        },
+        raw::UNSAT => Answer::Unsat {
+            nodes: number,
+            splits,
+        },
         raw::SPENT => Answer::Spent {
-            budget: nodes,
+            budget: number,
             splits,
         },
         _ => return None,
