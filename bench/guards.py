@@ -2,6 +2,7 @@
 
 import itertools
 import math
+import re
 import typing
 
 from programs import ROOT
@@ -34,6 +35,10 @@ class Guard(typing.NamedTuple):
     def nodes(self):
         return int(self.answer.split()[1])
 
+    def line_one(self):
+        """The verdict and the node count, without the splits."""
+        return " ".join(self.answer.split()[:2])
+
 
 def pack(guards, budget=BUDGET):
     """The guards as the programs read them."""
@@ -55,8 +60,11 @@ def samples():
     """The samples with the usual budget."""
     for path in sorted((ROOT / "samples").glob("*.hex")):
         if not path.with_suffix(".args").exists():
-            verdict, number = path.with_suffix(".out").read_text().replace(",", "").split()[:2]
-            yield Guard(path.stem, bytes.fromhex(path.read_text()), f"{verdict} {number}")
+            line = path.with_suffix(".out").read_text().splitlines()[0]
+            # "no splits" has no counts.
+            nodes, first, second = (re.findall(r"\d+", line) + ["0", "0"])[:3]
+            answer = f"{line.split(',')[0]} {nodes} splits {first} {second}"
+            yield Guard(path.stem, bytes.fromhex(path.read_text()), answer)
 
 
 def searches():
@@ -125,4 +133,4 @@ SIZES = range(2, 25, 2)
 
 def series(name):
     """The guards of a series, by growing length."""
-    return [Guard(f"{name}-{size}", SERIES[name](size), "SAT 1") for size in SIZES]
+    return [Guard(f"{name}-{size}", SERIES[name](size), "SAT 1 splits 0 0") for size in SIZES]

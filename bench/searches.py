@@ -71,7 +71,7 @@ def row(built, guard, options, ratios):
         if not agrees(guard, verdict):
             sys.exit(f"{guard.name}: {solver} says {verdict}, {guard.answer} was expected")
     times = [f"{ours:.0f}", f"{theirs:.0f}", f"{ratios[-1]:.2f}", f"{ours * guard.nodes() / 1e6:.1f}"]
-    return [guard.name, guard.answer, *times, *said.values()]
+    return [guard.name, guard.line_one(), *times, *said.values()]
 
 
 def times(built, options):

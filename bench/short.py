@@ -160,8 +160,8 @@ def processes(built, options):
             for name, command in commands.items():
                 said, seconds = wall(command, guard.file)
                 found[name].append(1000 * seconds)
-                if name != "true" and said.splitlines()[0] != guard.answer:
-                    sys.exit(f"{guard.name}: {name} says {said.splitlines()[0]}, {guard.answer} was expected")
+                if name != "true" and said.splitlines()[0] != guard.line_one():
+                    sys.exit(f"{guard.name}: {name} says {said.splitlines()[0]}, {guard.line_one()} was expected")
             for name, command in solvers.items():
                 said, seconds = wall(command, script)
                 found[name].append(1000 * seconds)

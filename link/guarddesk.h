@@ -26,7 +26,7 @@ extern "C" {
 /* How many numbers each buffer has to hold. Longer ones are fine; a longer row or place buffer is cleared to its end. */
 #define GUARDDESK_ROWS_LENGTH 16384
 #define GUARDDESK_PLACES_LENGTH 24
-#define GUARDDESK_ANSWER_LENGTH 3
+#define GUARDDESK_ANSWER_LENGTH 5
 
 /* What guarddesk_decide returns. */
 #define GUARDDESK_ANSWERED 0
@@ -37,6 +37,13 @@ extern "C" {
 #define GUARDDESK_SAT 1     /* the guard can hold; answer[1] is the node count, answer[2] the number of rows */
 #define GUARDDESK_UNSAT 2   /* it cannot; answer[1] is the node count */
 #define GUARDDESK_SPENT 3   /* the search takes more nodes than the budget; answer[1] is the budget */
+
+/*
+ * What the nodes went on: the splits at the nodes that were visited, after SPENT those within the budget, the last of them
+ * included even if neither of its branches was. 0 after REFUSED; after UNSAT answer[1] is 2 * (answer[3] + answer[4]) + 1.
+ *   answer[3]  splits of the first kind: whether a term is the variant that a field is read of
+ *   answer[4]  splits of the second kind: whether a term with only variants without fields left is the lowest of them
+ */
 
 /* What guarddesk_explain returns if the answer buffer is too short. */
 #define GUARDDESK_EXPLAIN_TOO_SHORT SIZE_MAX
@@ -60,9 +67,10 @@ extern "C" {
 /*
  * Decides the guard file of file_length bytes within a budget of nodes.
  *
- * If it returns GUARDDESK_ANSWER_TOO_SHORT, answer_length is below 3 and nothing was written. Otherwise it returns
- * GUARDDESK_ANSWERED, and answer[0] to answer[2] are the verdict, its number, and the number of rows (0 but after SAT).
- * Numbers of answer past the third stay as they were.
+ * If it returns GUARDDESK_ANSWER_TOO_SHORT, answer_length is below 5 and nothing was written. Otherwise it returns
+ * GUARDDESK_ANSWERED, and answer[0] to answer[4] are the verdict, its number, the number of rows (0 but after SAT), and the splits
+ * of the first and of the second kind. Numbers of answer past the fifth stay as they were. Verdict, node count and splits are the
+ * same for every budget that suffices.
  *
  * answer[1] after REFUSED:
  *    1  the row buffer has fewer than 16,384 numbers, or the place buffer fewer than 24
@@ -92,7 +100,7 @@ uint32_t guarddesk_decide(const uint8_t *file, size_t file_length, uint32_t budg
  * Decides as guarddesk_decide, and after UNSAT writes the record of the search, which shows why: all its branches, each
  * closed for a reason.
  *
- * If it returns GUARDDESK_EXPLAIN_TOO_SHORT, answer_length is below 3 and nothing was written. Otherwise it returns the number
+ * If it returns GUARDDESK_EXPLAIN_TOO_SHORT, answer_length is below 5 and nothing was written. Otherwise it returns the number
  * of bytes of the record, 0 but after UNSAT; answer, rows and places are as after guarddesk_decide, but for one refusal more:
  *   11  the guard cannot hold, and its record has more than record_length bytes
  * 3 bytes for each node suffice: answer[1] of guarddesk_decide after UNSAT, times GUARDDESK_RECORD_BYTES_PER_NODE.

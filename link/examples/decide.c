@@ -16,6 +16,7 @@ int main(void)
                          answer, GUARDDESK_ANSWER_LENGTH) != GUARDDESK_ANSWERED)
         return 1;
     printf("%s %u\n", verdicts[answer[0]], (unsigned)answer[1]);
+    printf("splits: %u of the first kind, %u of the second\n", (unsigned)answer[3], (unsigned)answer[4]);
     for (int term = 0; answer[0] == GUARDDESK_SAT && term < 2; term++) {
         const int32_t tag = rows[4 * places[term]];
         printf("term %d: type %d variant %d\n", term, (int)tag / 16, (int)tag % 16);

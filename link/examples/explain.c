@@ -42,6 +42,7 @@ int main(void)
     if (length == GUARDDESK_EXPLAIN_TOO_SHORT || answer[0] != GUARDDESK_UNSAT)
         return 1;
     printf("UNSAT %u\n", (unsigned)answer[1]);
+    printf("splits: %u of the first kind, %u of the second\n", (unsigned)answer[3], (unsigned)answer[4]);
     print_branch(record, 0, "");
     if (guarddesk_check(file, sizeof file, record, length) != GUARDDESK_ACCEPTED)
         return 1;

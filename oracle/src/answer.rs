@@ -4,27 +4,37 @@ use std::fmt;
 
 use crate::guard::{Guard, Limits};
 use crate::read::{self, Question};
-use crate::search::{search, End};
+use crate::search::{search, End, Splits, Tally};
 
 /// "REFUSED with a number; or SAT with the node count [...]; or UNSAT with the
-/// node count; or SPENT with the budget as node count."
+/// node count; or SPENT with the budget as node count." Request #105: "SAT,
+/// UNSAT and SPENT each carry the counts of first-kind and of second-kind
+/// splits".
 #[derive(Clone, Copy, Debug, PartialEq, Eq)]
 pub enum Answer {
     Refused(Question),
-    Sat { nodes: u32 },
-    Unsat { nodes: u32 },
-    Spent { budget: u32 },
+    Sat { nodes: u32, splits: Splits },
+    Unsat { nodes: u32, splits: Splits },
+    Spent { budget: u32, splits: Splits },
 }
 
+/// As `SAT 3 splits 1 0`: first-kind splits before second-kind ones.
 impl fmt::Display for Answer {
     fn fmt(&self, f: &mut fmt::Formatter) -> fmt::Result {
-        match self {
-            Answer::Refused(question) => write!(f, "REFUSED {}", question.number()),
-            Answer::Sat { nodes } => write!(f, "SAT {nodes}"),
-            Answer::Unsat { nodes } => write!(f, "UNSAT {nodes}"),
-            Answer::Spent { budget } => write!(f, "SPENT {budget}"),
-        }
+        let (verdict, nodes, splits) = match *self {
+            Answer::Refused(question) => return write!(f, "REFUSED {}", question.number()),
+            Answer::Sat { nodes, splits } => ("SAT", nodes, splits),
+            Answer::Unsat { nodes, splits } => ("UNSAT", nodes, splits),
+            Answer::Spent { budget, splits } => ("SPENT", budget, splits),
+        };
+        let Splits { first, second } = splits;
+        write!(f, "{verdict} {nodes} splits {first} {second}")
     }
+}
+
+/// What `guarddesk` prints of an answer in line one: all but the splits.
+pub fn line_one(answer: &str) -> &str {
+    answer.split(" splits ").next().unwrap_or(answer)
 }
 
 /// The answer to a file with buffers of the least lengths.
@@ -50,9 +60,10 @@ pub fn answer_with_buffers(
 
 /// The answer to an accepted guard.
 pub fn answer_to(guard: &Guard, budget: u32) -> Answer {
-    match search(guard, budget) {
-        (End::Open, tally) => Answer::Sat { nodes: tally.nodes },
-        (End::Closed, tally) => Answer::Unsat { nodes: tally.nodes },
-        (End::Spent, _) => Answer::Spent { budget },
+    let (end, Tally { nodes, splits, .. }) = search(guard, budget);
+    match end {
+        End::Open => Answer::Sat { nodes, splits },
+        End::Closed => Answer::Unsat { nodes, splits },
+        End::Spent => Answer::Spent { budget, splits },
     }
 }

@@ -1,10 +1,10 @@
 //! A second, separately written solver for guard files.
 //!
-//! It is written from document 01 and requests #101, #102 and #104 of document
-//! 02 alone, and favours plain code over speed: the closure is saturated from
-//! scratch at every node of the search. It gives the expected answers of the
-//! test vectors, checks printed answers, and writes guard files from lists of
-//! numbers.
+//! It is written from document 01 and requests #101, #102, #104 and #105 of
+//! document 02 alone, and favours plain code over speed: the closure is
+//! saturated from scratch at every node of the search. It gives the expected
+//! answers of the test vectors, checks printed answers, and writes guard files
+//! from lists of numbers.
 //!
 //! Words: document 01's sister field is a sibling field here, a class that is
 //! a part of itself is a cycle, and "the walk" is the search.

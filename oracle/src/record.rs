@@ -6,7 +6,7 @@ use crate::guard::{Guard, Limits, Line};
 use crate::number;
 use crate::problem::{only, Label, Problem};
 use crate::read::{self, Question};
-use crate::search::{closed, split, End, Reason, Split};
+use crate::search::{closed, split, End, Reason, Split, Splits};
 
 /// The kind of an entry about a split; reasons are 0 to 3 in their order.
 pub const SPLIT: usize = Reason::ALL.len();
@@ -201,6 +201,23 @@ pub fn entries(guard: &Guard, budget: u32) -> (End, Vec<Entry>) {
         branch = next(decisions, entry);
     }
     (End::Closed, entries)
+}
+
+/// The splits among entries of a search, by kind: a variant that a field is
+/// read of has fields, and a second-kind split is on one that has none.
+pub fn splits_in(guard: &Guard, entries: &[Entry]) -> Splits {
+    let types = Problem::new(guard).types;
+    let mut splits = Splits::default();
+    for entry in entries {
+        if let Entry::Split { term, variant } = *entry {
+            let ty = types[term].expect("a split is on a term");
+            match guard.fields(ty, variant) {
+                [] => splits.second += 1,
+                _ => splits.first += 1,
+            }
+        }
+    }
+    splits
 }
 
 pub fn bytes(entries: &[Entry]) -> Vec<u8> {

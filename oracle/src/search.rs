@@ -109,12 +109,25 @@ pub enum End {
     Spent,
 }
 
+/// Request #105: "the counts of first-kind and of second-kind splits made at
+/// visited nodes".
+#[derive(Clone, Copy, Debug, Default, PartialEq, Eq)]
+pub struct Splits {
+    pub first: u32,
+    pub second: u32,
+}
+
+impl Splits {
+    pub fn total(self) -> u32 {
+        self.first + self.second
+    }
+}
+
 /// What a search met on its way.
 #[derive(Clone, Copy, Debug, Default, PartialEq, Eq)]
 pub struct Tally {
     pub nodes: u32,
-    /// Splits of the first and of the second kind.
-    pub splits: [u32; 2],
+    pub splits: Splits,
     /// Closed nodes by their first reason.
     pub closed: [u32; 4],
 }
@@ -151,12 +164,14 @@ impl Search<'_> {
             self.tally.closed[reason as usize] += 1;
             return End::Closed;
         }
-        let (kind, term, variant) = match split(&self.problem, &closure) {
+        let splits = &mut self.tally.splits;
+        let (count, term, variant) = match split(&self.problem, &closure) {
             None => return End::Open,
-            Some(Split::First { term, variant }) => (0, term, variant),
-            Some(Split::Second { term, variant }) => (1, term, variant),
+            Some(Split::First { term, variant }) => (&mut splits.first, term, variant),
+            Some(Split::Second { term, variant }) => (&mut splits.second, term, variant),
         };
-        self.tally.splits[kind] += 1;
+        // Before the children: "those whose children the budget cut off included".
+        *count += 1;
         for is in [true, false] {
             self.decisions.push(Decision { term, variant, is });
             let end = self.visit();

@@ -2,7 +2,7 @@
 
 use std::fmt::Write;
 
-use crate::answer::answer;
+use crate::answer::{answer, line_one};
 use crate::guard::{Guard, Limits, FIELDS, VARIANTS_PER_TYPE};
 use crate::number;
 use crate::read;
@@ -24,8 +24,9 @@ pub fn check(file: &[u8], output: &str, budget: u32, limits: Limits) -> Result<(
     check_known(file, output, &expected, limits)
 }
 
-/// Checks all of a printed answer to a file whose line one is known.
-pub fn check_known(file: &[u8], output: &str, expected: &str, limits: Limits) -> Result<(), Fault> {
+/// Checks all of a printed answer to a file whose answer is known.
+pub fn check_known(file: &[u8], output: &str, answer: &str, limits: Limits) -> Result<(), Fault> {
+    let expected = line_one(answer);
     let (verdict, rest) = match output.split_once('\n') {
         Some(split) => split,
         None => return Err("line one doesn't end, or is missing".to_string()),

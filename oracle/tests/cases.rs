@@ -1,8 +1,9 @@
-//! Document 01's cases by hand, with verdict and node count.
+//! Document 01's cases by hand, with verdict, node count and splits.
 
 use oracle::answer::{answer, answer_with_buffers, Answer};
 use oracle::guard::Limits;
 use oracle::read::Question;
+use oracle::search::Splits;
 use oracle::vectors::unhex;
 
 const X: &str = "02 00 02 00 02 00 01 ";
@@ -21,20 +22,28 @@ const H: &str = "01 02 00 00 03 00 00 00 00 00 00 03 01 00 01 01 00 02 01 01 02"
 #[test]
 fn cases_a_to_j() {
     let cases = [
-        ("00 00 00", 1, "SAT 1"),
-        ("00 00 00", 0, "SPENT 0"),
-        (C, 3, "SAT 3"),
-        (C, 2, "SPENT 2"),
-        ("X 02 00 01 03 00 01 01 02 00 00 01 02 00 01", 1, "UNSAT 1"),
-        ("X 02 00 01 00 01 01 01 00 01", 1, "SAT 1"),
+        ("00 00 00", 1, "SAT 1 splits 0 0"),
+        ("00 00 00", 0, "SPENT 0 splits 0 0"),
+        (C, 3, "SAT 3 splits 1 0"),
+        (C, 2, "SPENT 2 splits 1 0"),
+        (
+            "X 02 00 01 03 00 01 01 02 00 00 01 02 00 01",
+            1,
+            "UNSAT 1 splits 0 0",
+        ),
+        ("X 02 00 01 00 01 01 01 00 01", 1, "SAT 1 splits 0 0"),
         (
             "X 02 00 01 00 01 03 01 00 01 03 00 01 03 01 01",
             1,
-            "UNSAT 1",
+            "UNSAT 1 splits 0 0",
         ),
-        (H, 11, "UNSAT 11"),
-        (H, 10, "SPENT 10"),
-        ("01 00 02 01 00 05 01 00 08 01 00 00 01", 1, "UNSAT 1"),
+        (H, 11, "UNSAT 11 splits 0 5"),
+        (H, 10, "SPENT 10 splits 0 5"),
+        (
+            "01 00 02 01 00 05 01 00 08 01 00 00 01",
+            1,
+            "UNSAT 1 splits 0 0",
+        ),
     ];
     for (text, budget, expected) in cases {
         assert_eq!(given(text, budget), expected, "{text} with {budget}");
@@ -66,7 +75,11 @@ fn buffers_come_first() {
     assert_eq!(with(&[], 16_383, 24), refused);
     assert_eq!(with(&[], 16_384, 23), refused);
     assert_eq!(with(&[], 16_384, 24), Answer::Refused(Question::NumberEnds));
-    assert_eq!(with(&[0, 0, 0], 20_000, 30), Answer::Sat { nodes: 1 });
+    let sat = Answer::Sat {
+        nodes: 1,
+        splits: Splits::default(),
+    };
+    assert_eq!(with(&[0, 0, 0], 20_000, 30), sat);
 }
 
 /// Two questions at one number, or two faults in one file.
@@ -107,7 +120,7 @@ fn the_first_no_counts() {
 #[test]
 fn siblings_of_an_absent_variant_are_split_on() {
     let text = "02 02 00 00 02 00 02 01 00 02 00 01 03 00 01 00 01 02 00 00";
-    assert_eq!(given(text, 2), "SAT 2");
+    assert_eq!(given(text, 2), "SAT 2 splits 0 1");
 }
 
 /// Request #104: "Signed values now run over 64 bits, with up to ten bytes and
@@ -119,7 +132,7 @@ fn values_over_64_bits() {
     let one = |value: &str, rest: &str| given(&format!("01 00 01 01 00 {value} {rest}"), 1);
     for (value, rest, expected) in [
         // −9,223,372,036,854,775,808, and one more as written.
-        (format!("{nine} 01"), "00", "SAT 1"),
+        (format!("{nine} 01"), "00", "SAT 1 splits 0 0"),
         (
             "80 80 80 80 80 80 80 80 80 02".to_string(),
             "00",
@@ -135,7 +148,7 @@ fn values_over_64_bits() {
         // One byte too many.
         (format!("{nine} 00"), "00", "REFUSED 3"),
         ("ff ff ff ff ff 00".to_string(), "00", "REFUSED 3"),
-        ("ff ff ff ff 7f".to_string(), "00", "SAT 1"),
+        ("ff ff ff ff 7f".to_string(), "00", "SAT 1 splits 0 0"),
     ] {
         assert_eq!(one(&value, rest), expected, "{value} {rest}");
     }
@@ -154,24 +167,41 @@ fn values_over_64_bits() {
         "fe ff ff ff ff ff ff ff ff 01 01 00 ff ff ff ff ff ff ff ff ff 01",
     ] {
         let lines = |kind: u8| given(&format!("01 00 02 01 00 {pair} 01 0{kind} 00 01"), 1);
-        assert_eq!((lines(0), lines(1)), ("UNSAT 1".into(), "SAT 1".into()));
+        assert_eq!(lines(0), "UNSAT 1 splits 0 0");
+        assert_eq!(lines(1), "SAT 1 splits 0 0");
     }
 }
 
 /// "SPENT is given precisely if the walk would visit more nodes than the
-/// budget."
+/// budget." The splits up to each budget are counted by hand; a larger budget
+/// than the node count keeps them.
 #[test]
 fn budgets_around_the_node_count() {
-    for (text, verdict, nodes) in [("00 00 00", "SAT", 1), (C, "SAT", 3), (H, "UNSAT", 11)] {
+    // In case h each node in walk order splits on a flag, or is closed.
+    let second = [0, 1, 2, 2, 3, 3, 3, 4, 5, 5, 5, 5];
+    let guards: [(&str, &str, &[u32], &[u32]); 3] = [
+        ("00 00 00", "SAT", &[0, 0], &[0, 0]),
+        (C, "SAT", &[0, 1, 1, 1], &[0, 0, 0, 0]),
+        (H, "UNSAT", &[0; 12], &second),
+    ];
+    for (text, verdict, first, second) in guards {
+        let nodes = first.len() - 1;
+        let with = |verdict: &str, nodes: usize| {
+            format!(
+                "{verdict} {nodes} splits {} {}",
+                first[nodes], second[nodes]
+            )
+        };
         for budget in 0..20 {
             let expected = if budget < nodes {
-                format!("SPENT {budget}")
+                with("SPENT", budget)
             } else {
-                format!("{verdict} {nodes}")
+                with(verdict, nodes)
             };
-            assert_eq!(given(text, budget), expected, "{text} with {budget}");
+            let given = given(text, budget as u32);
+            assert_eq!(given, expected, "{text} with {budget}");
         }
-        assert_eq!(given(text, u32::MAX), format!("{verdict} {nodes}"));
+        assert_eq!(given(text, u32::MAX), with(verdict, nodes));
     }
 }
 
@@ -186,10 +216,11 @@ fn limits_are_a_parameter() {
     assert_eq!(given("02 00 00 00 00"), "REFUSED 4");
     assert_eq!(given("01 00 03 00 00 00 00 00 00 00"), "REFUSED 4");
     assert_eq!(given("01 00 02 00 00 00 00 02"), "REFUSED 4");
-    assert_eq!(given("01 00 02 00 00 00 00 01 01 00 01"), "SAT 1");
+    let sat = "SAT 1 splits 0 0";
+    assert_eq!(given("01 00 02 00 00 00 00 01 01 00 01"), sat);
     // nil or cons(list): x is its own tail, and isn't nil.
     assert_eq!(
         given("01 02 00 01 00 02 00 00 03 00 01 00 01 00 00 01"),
-        "SAT 3"
+        "SAT 3 splits 1 0"
     );
 }

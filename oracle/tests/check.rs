@@ -3,6 +3,7 @@
 use oracle::answer::Answer;
 use oracle::guard::Limits;
 use oracle::read::{self, Question};
+use oracle::search::Splits;
 use oracle::shown::{check_call, check_shown};
 use oracle::text::{check, parse};
 use oracle::vectors::unhex;
@@ -178,7 +179,8 @@ fn buffers_are_checked_to_their_ends() {
     let (mut rows, mut places) = (vec![0; 16_384], vec![0; 24]);
     rows[..20].copy_from_slice(&numbers.rows);
     places[..5].copy_from_slice(&numbers.places);
-    let sat = (Answer::Sat { nodes: 1 }, 5);
+    let splits = Splits::default();
+    let sat = (Answer::Sat { nodes: 1, splits }, 5);
     let checked = |claim, rows: &[i32], places: &[i32]| {
         check_call(&file, 10, Limits::BASE, claim, rows, places)
     };
@@ -186,7 +188,13 @@ fn buffers_are_checked_to_their_ends() {
     assert!(checked((sat.0, 4), &rows, &places).is_err());
     assert!(checked((sat.0, 6), &rows, &places).is_err());
     assert!(checked((sat.0, 5_000), &rows, &places).is_err());
-    assert!(checked((Answer::Unsat { nodes: 1 }, 0), &rows, &places).is_err());
+    let unsat = (Answer::Unsat { nodes: 1, splits }, 0);
+    assert!(checked(unsat, &rows, &places).is_err());
+    for (first, second) in [(1, 0), (0, 1)] {
+        let splits = Splits { first, second };
+        let other = (Answer::Sat { nodes: 1, splits }, 5);
+        assert!(checked(other, &rows, &places).is_err(), "{splits:?}");
+    }
     for at in [20, 21, 8_192, 16_383] {
         let mut rows = rows.clone();
         rows[at] = 1;
@@ -221,7 +229,7 @@ fn buffers_are_checked_to_their_ends() {
     assert_eq!(checked(refused, &[0; 16_383], &[0; 24]), Ok(()));
     assert!(checked(refused, &[0; 16_384], &[0; 24]).is_err());
     assert!(checked(refused, &[1; 16_383], &[0; 24]).is_err());
-    let spent = (Answer::Spent { budget: 0 }, 0);
+    let spent = (Answer::Spent { budget: 0, splits }, 0);
     let checked = |rows: &[i32]| check_call(&file, 0, Limits::BASE, spent, rows, &[0; 24]);
     assert_eq!(checked(&[0; 16_384]), Ok(()));
     assert!(checked(&rows).is_err());

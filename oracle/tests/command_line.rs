@@ -33,9 +33,13 @@ const C: &[u8] = &[2, 0, 2, 0, 2, 0, 1, 2, 0, 1, 3, 0, 1, 1, 1, 0, 0, 1];
 #[test]
 fn answers() {
     let cases: [(&[&str], &[u8], &str); 6] = [
-        (&["answer", "-"], C, "SAT 3\n"),
-        (&["answer", "-", "--budget", "2"], C, "SPENT 2\n"),
-        (&["answer", "-", "--budget", "4294967295"], C, "SAT 3\n"),
+        (&["answer", "-"], C, "SAT 3 splits 1 0\n"),
+        (&["answer", "-", "--budget", "2"], C, "SPENT 2 splits 1 0\n"),
+        (
+            &["answer", "-", "--budget", "4294967295"],
+            C,
+            "SAT 3 splits 1 0\n",
+        ),
         (&["answer", "-"], &[], "REFUSED 2\n"),
         (&["answer", "-"], &[0; 5_000], "REFUSED 10\n"),
         (&["answer", "-"], &[0x80; 5_000], "REFUSED 3\n"),
@@ -126,7 +130,7 @@ const E: &[u8] = &[
 fn records_are_for_unsat_guards() {
     assert_eq!(printed(&oracle(&["record", "-"], E)), "0300\n");
     for (words, input, why) in [
-        (&["record", "-"][..], C, "the answer is SAT 3"),
+        (&["record", "-"][..], C, "the answer is SAT 3 splits 1 0"),
         (
             &["record", "-", "--budget", "0"],
             E,
@@ -181,7 +185,7 @@ fn made_and_checked(command: &str) {
     fs::write(dir.join(&name), &right[..right.len() - 2]).expect("written");
     assert_eq!(code(&[command, "--check", &place]), Some(1));
     // Too few guards for each kind of damage, and wrong answers.
-    for vectors in ["", "x\t1\t000000\tUNSAT 1\n"] {
+    for vectors in ["", "x\t1\t000000\tUNSAT 1 splits 0 0\n"] {
         fs::write(dir.join("vectors.txt"), vectors).expect("written");
         assert_eq!(code(&[command, &place]), Some(1));
     }
@@ -236,7 +240,7 @@ fn packs_vectors() {
     let (vectors, out) = (dir.join("vectors.txt"), dir.join("packed"));
     fs::write(
         &vectors,
-        "# a comment\nx\t258\t000000\tSAT 1\ny\t0\t-\tREFUSED 2\n",
+        "# a comment\nx\t258\t000000\tSAT 1 splits 0 0\ny\t0\t-\tREFUSED 2\n",
     )
     .expect("written");
     let words = [
@@ -266,13 +270,14 @@ fn tables_are_written_and_checked() {
 
 #[test]
 fn walks_are_written_and_checked() {
-    written_and_checked("walks", "SAT 1\nREFUSED 2\n");
+    written_and_checked("walks", "SAT 1 splits 0 0\nREFUSED 2\n");
 }
 
 fn written_and_checked(command: &str, lines: &str) {
     let dir = scratch(command);
     let vectors = dir.join("vectors.txt");
-    fs::write(&vectors, "x\t1\t000000\tSAT 1\ny\t0\t-\tREFUSED 2\n").expect("written");
+    let text = "x\t1\t000000\tSAT 1 splits 0 0\ny\t0\t-\tREFUSED 2\n";
+    fs::write(&vectors, text).expect("written");
     let (vectors, place) = (vectors.display().to_string(), dir.display().to_string());
     let write = [command, &vectors, &place];
     let check = [command, "--check", &vectors, &place];
@@ -297,7 +302,9 @@ fn answers_are_checked_in_full() {
     let dir = scratch("answers");
     let vectors = dir.join("vectors.txt");
     let hex: String = C.iter().map(|byte| format!("{byte:02x}")).collect();
-    let text = format!("x\t3\t{hex}\tSAT 3\ny\t0\t-\tREFUSED 2\nz\t2\t{hex}\tSPENT 2\n");
+    let text = format!(
+        "x\t3\t{hex}\tSAT 3 splits 1 0\ny\t0\t-\tREFUSED 2\nz\t2\t{hex}\tSPENT 2 splits 1 0\n"
+    );
     fs::write(&vectors, text).expect("written");
     let (vectors, place) = (vectors.display().to_string(), dir.display().to_string());
     let write = oracle(&["answers", &vectors, &place], &[]);
@@ -315,6 +322,12 @@ fn answers_are_checked_in_full() {
     assert_eq!(output.status.code(), Some(0));
     for (old, new, why) in [
         ("SAT 3", "SAT 2", "x: line one is \"SAT 2\", expected SAT 3"),
+        // What the program prints has no splits.
+        (
+            "SAT 3",
+            "SAT 3 splits 1 0",
+            "x: line one is \"SAT 3 splits 1 0\", expected SAT 3",
+        ),
         (
             "variant 0",
             "variant 1",

@@ -202,11 +202,12 @@ fn the_lowest_term_inside_itself_is_written() {
     }
 }
 
-/// The nodes and reasons in a record are those that the search counts.
+/// The nodes, reasons and splits in a record are those that the search counts.
 fn assert_tally(guard: &Guard, budget: u32, entries: &[Entry]) {
     let (_, tally) = search(guard, budget);
     assert_eq!(closed_by(entries), tally.closed);
     assert_eq!(entries.len(), tally.nodes as usize);
+    assert_eq!(record::splits_in(guard, entries), tally.splits);
 }
 
 /// The closed nodes by their reason.

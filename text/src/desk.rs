@@ -16,21 +16,33 @@ pub enum Message {
     },
 }
 
+/// The splits at the nodes that were visited.
+#[derive(Clone, Copy, Debug, Default, PartialEq, Eq)]
+pub struct Splits {
+    /// Of the first kind: whether a term is the variant that a field is read of.
+    pub reads: u32,
+    /// Of the second kind: which of its variants without fields a term is.
+    pub values: u32,
+}
+
 #[derive(Clone, Debug, PartialEq, Eq)]
 pub enum Answer {
     /// The number of the question that got a no.
     Refused(u32),
     Sat {
         nodes: u32,
+        splits: Splits,
         rows: Vec<Message>,
         /// The row of each term.
         places: Vec<usize>,
     },
     Unsat {
         nodes: u32,
+        splits: Splits,
     },
     Spent {
         budget: u32,
+        splits: Splits,
     },
 }
 
@@ -46,15 +58,36 @@ pub fn explain(file: &[u8], budget: u32) -> (Answer, Option<Refutation>) {
 }
 
 fn answer(answer: guarddesk::Answer) -> Answer {
+    let splits = |reads, values| Splits { reads, values };
     match answer {
         guarddesk::Answer::Refused { question } => Answer::Refused(question),
-        guarddesk::Answer::Sat { nodes, messages } => Answer::Sat {
+        guarddesk::Answer::Sat {
             nodes,
+            first_splits,
+            second_splits,
+            messages,
+        } => Answer::Sat {
+            nodes,
+            splits: splits(first_splits, second_splits),
             rows: messages.rows().map(row).collect(),
             places: messages.terms().map(|message| message.row()).collect(),
         },
-        guarddesk::Answer::Unsat { nodes } => Answer::Unsat { nodes },
-        guarddesk::Answer::Spent { budget } => Answer::Spent { budget },
+        guarddesk::Answer::Unsat {
+            nodes,
+            first_splits,
+            second_splits,
+        } => Answer::Unsat {
+            nodes,
+            splits: splits(first_splits, second_splits),
+        },
+        guarddesk::Answer::Spent {
+            budget,
+            first_splits,
+            second_splits,
+        } => Answer::Spent {
+            budget,
+            splits: splits(first_splits, second_splits),
+        },
     }
 }
 
@@ -98,6 +131,7 @@ mod tests {
         let places = vec![2, 0, 1, 2];
         let sat = Answer::Sat {
             nodes: 1,
+            splits: Splits::default(),
             rows,
             places,
         };
@@ -109,9 +143,35 @@ mod tests {
         // Three flags that all differ.
         let unequal = [1, 0, 1, 1, 0, 2, 1, 1, 2];
         let file = [&[1, 2, 0, 0, 3, 0, 0, 0, 0, 0, 0, 3][..], &unequal].concat();
-        assert_eq!(decide(&file, 11), Answer::Unsat { nodes: 11 });
-        assert_eq!(decide(&file, u32::MAX), Answer::Unsat { nodes: 11 });
-        assert_eq!(decide(&file, 10), Answer::Spent { budget: 10 });
+        let splits = |values| Splits { reads: 0, values };
+        let unsat = Answer::Unsat {
+            nodes: 11,
+            splits: splits(5),
+        };
+        assert_eq!(decide(&file, 11), unsat);
+        assert_eq!(decide(&file, u32::MAX), unsat);
+        for (budget, values) in [(0, 0), (1, 1), (2, 2), (6, 3), (10, 5)] {
+            let splits = splits(values);
+            assert_eq!(decide(&file, budget), Answer::Spent { budget, splits });
+        }
         assert_eq!(decide(&[1, 1, 1, 0], 0), Answer::Refused(8));
+    }
+
+    #[test]
+    fn splits_on_a_field_read() {
+        // Numbers; lists of them. A list that is its own tail.
+        let file = [2, 0, 2, 0, 2, 0, 1, 2, 0, 1, 3, 0, 1, 1, 1, 0, 0, 1];
+        let one = Splits {
+            reads: 1,
+            values: 0,
+        };
+        let Answer::Sat { nodes, splits, .. } = decide(&file, 3) else {
+            panic!("not SAT");
+        };
+        assert_eq!((nodes, splits), (3, one));
+        let spent = |budget, splits| Answer::Spent { budget, splits };
+        assert_eq!(decide(&file, 2), spent(2, one));
+        assert_eq!(decide(&file, 1), spent(1, one));
+        assert_eq!(decide(&file, 0), spent(0, Splits::default()));
     }
 }

@@ -4,7 +4,7 @@ use std::collections::HashSet;
 use std::fmt::Write;
 
 use crate::check::Source;
-use crate::desk::{Answer, Message};
+use crate::desk::{Answer, Message, Splits};
 use crate::guard::{Guard, Names};
 use crate::refusals::explain;
 
@@ -21,22 +21,23 @@ pub fn show(source: &Source, answer: &Answer) -> Result<String, String> {
         }
         Answer::Sat {
             nodes,
+            splits,
             rows,
             places,
         } => {
             fits(&source.guard, rows, places)
                 .ok_or("the desk's messages aren't messages of this guard")?;
             let shown = messages(&source.names, rows, places);
-            Ok(format!("SAT, {}\n{shown}", counted(*nodes)))
+            Ok(format!("SAT, {}\n{shown}", counted(*nodes, *splits)))
         }
-        Answer::Unsat { nodes } => {
-            let nodes = counted(*nodes);
+        Answer::Unsat { nodes, splits } => {
+            let nodes = counted(*nodes, *splits);
             Ok(format!(
                 "UNSAT, {nodes}: no messages make this guard hold\n"
             ))
         }
-        Answer::Spent { budget } => {
-            let nodes = counted(*budget);
+        Answer::Spent { budget, splits } => {
+            let nodes = counted(*budget, *splits);
             Ok(format!(
                 "SPENT, budget {nodes}: more nodes are needed to decide\n"
             ))
@@ -44,10 +45,21 @@ pub fn show(source: &Source, answer: &Answer) -> Result<String, String> {
     }
 }
 
-fn counted(nodes: u32) -> String {
-    match nodes {
-        1 => "1 node".to_string(),
-        _ => format!("{nodes} nodes"),
+/// The nodes, and what they went on.
+fn counted(nodes: u32, splits: Splits) -> String {
+    let nodes = many(nodes, "node");
+    if splits == Splits::default() {
+        return format!("{nodes}, no splits");
+    }
+    let Splits { reads, values } = splits;
+    let reads = many(reads, "split");
+    format!("{nodes}, {reads} on fields read, {values} on values")
+}
+
+fn many(number: u32, what: &str) -> String {
+    match number {
+        1 => format!("1 {what}"),
+        _ => format!("{number} {what}s"),
     }
 }
 

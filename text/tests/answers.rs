@@ -2,7 +2,7 @@
 
 use guarddesk::Refusal;
 use guardtext::check::Source;
-use guardtext::desk::{Answer, Message};
+use guardtext::desk::{Answer, Message, Splits};
 use guardtext::encode::encode;
 use guardtext::show::show;
 
@@ -34,9 +34,14 @@ fn built(variant: usize, parts: &[usize]) -> Message {
     }
 }
 
+fn splits(reads: u32, values: u32) -> Splits {
+    Splits { reads, values }
+}
+
 fn sat(rows: Vec<Message>, places: &[usize]) -> Answer {
     Answer::Sat {
         nodes: 3,
+        splits: splits(1, 0),
         rows,
         places: places.to_vec(),
     }
@@ -45,20 +50,35 @@ fn sat(rows: Vec<Message>, places: &[usize]) -> Answer {
 #[test]
 fn verdicts() {
     let shown = |answer| answered("", answer).expect("an answer");
+    let unsat = |nodes, splits| shown(Answer::Unsat { nodes, splits });
     assert_eq!(
-        shown(Answer::Unsat { nodes: 11 }),
-        "UNSAT, 11 nodes: no messages make this guard hold\n"
+        unsat(11, splits(0, 5)),
+        "UNSAT, 11 nodes, 0 splits on fields read, 5 on values: no messages make this guard hold\n"
     );
     assert_eq!(
-        shown(Answer::Spent { budget: 10 }),
-        "SPENT, budget 10 nodes: more nodes are needed to decide\n"
+        unsat(1, splits(0, 0)),
+        "UNSAT, 1 node, no splits: no messages make this guard hold\n"
+    );
+    let spent = |budget, splits| shown(Answer::Spent { budget, splits });
+    assert_eq!(
+        spent(10, splits(2, 3)),
+        "SPENT, budget 10 nodes, 2 splits on fields read, 3 on values: more nodes are needed to decide\n"
+    );
+    assert_eq!(
+        spent(1, splits(1, 0)),
+        "SPENT, budget 1 node, 1 split on fields read, 0 on values: more nodes are needed to decide\n"
+    );
+    assert_eq!(
+        spent(0, splits(0, 0)),
+        "SPENT, budget 0 nodes, no splits: more nodes are needed to decide\n"
     );
     let sat = Answer::Sat {
         nodes: 1,
+        splits: splits(0, 0),
         rows: vec![],
         places: vec![],
     };
-    assert_eq!(shown(sat), "SAT, 1 node\n");
+    assert_eq!(shown(sat), "SAT, 1 node, no splits\n");
 }
 
 #[test]
@@ -67,7 +87,8 @@ fn named_terms_get_their_messages() {
     let rows = vec![number(-3), built(0, &[]), built(1, &[0, 1])];
     assert_eq!(
         answered(&text, sat(rows, &[2, 1, 0, 0])).expect("an answer"),
-        "SAT, 3 nodes\nx = cons(-3, nil)\nrest = nil\nsame = cons(-3, nil)\n"
+        "SAT, 3 nodes, 1 split on fields read, 0 on values\n\
+         x = cons(-3, nil)\nrest = nil\nsame = cons(-3, nil)\n"
     );
 }
 
@@ -79,7 +100,10 @@ fn thousands_of_levels_are_printed_in_full() {
     }
     let shown = answered(&format!("{LISTS}var x: List"), sat(rows, &[4_095]));
     let wanted = format!("x = {}nil{}\n", "cons(7, ".repeat(4_094), ")".repeat(4_094));
-    assert_eq!(shown.expect("an answer"), format!("SAT, 3 nodes\n{wanted}"));
+    let shown = shown.expect("an answer");
+    let (line_one, shown) = shown.split_once('\n').expect("lines");
+    assert!(line_one.starts_with("SAT, 3 nodes, "), "{line_one}");
+    assert_eq!(shown, wanted);
 }
 
 #[test]

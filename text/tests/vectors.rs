@@ -1,5 +1,5 @@
 //! The test vectors: every file is taken or refused as expected, every accepted one comes
-//! back from its text, and every dead one has a line for each node.
+//! back from its text, and every dead one has a line for each node and each split.
 
 use guardtext::branches::branches;
 use guardtext::decode::{decode, from_hex};
@@ -37,9 +37,11 @@ fn files_come_back_from_their_texts() {
                 assert_eq!(source.names.terms.len(), guard.rows.len(), "{name}");
                 assert_eq!(encode(&source.guard).as_ref(), Ok(&file), "{name}");
                 taken += 1;
-                if let (Answer::Unsat { nodes }, Some(refutation)) = explain(&file, 1000) {
+                if let (Answer::Unsat { nodes, splits }, Some(refutation)) = explain(&file, 1000) {
                     let lines = branches(&source, &refutation).expect(name);
                     assert_eq!(lines.lines().count(), nodes as usize, "{name}");
+                    let asked = lines.lines().filter(|line| line.ends_with('?')).count();
+                    assert_eq!(asked as u32, splits.reads + splits.values, "{name}");
                     dead += 1;
                 }
             }

@@ -8,7 +8,7 @@ use std::process::ExitCode;
 
 use guarddesk::raw;
 use oracle::guard::Limits;
-use twin::Answer;
+use twin::{Answer, Counts};
 
 const USAGE: &str = "\
 usage: calls rattle TIMES  all guards so many times by the proved library
@@ -54,17 +54,27 @@ impl Buffers {
     fn rust(&mut self, (file, budget): Guard) {
         let answer = twin::decide(file, budget, &mut self.rows, &mut self.places);
         self.answer = match answer {
-            Answer::Refused { question } => [raw::REFUSED, question, 0],
-            Answer::Sat { nodes, rows } => [raw::SAT, nodes, rows],
-            Answer::Unsat { nodes } => [raw::UNSAT, nodes, 0],
-            Answer::Spent { budget } => [raw::SPENT, budget, 0],
+            Answer::Refused { question } => [raw::REFUSED, question, 0, 0, 0],
+            Answer::Sat { counts, rows } => numbers(raw::SAT, counts, rows),
+            Answer::Unsat { counts } => numbers(raw::UNSAT, counts, 0),
+            Answer::Spent { counts } => numbers(raw::SPENT, counts, 0),
         };
     }
 
+    /// The answer as the vectors have it.
     fn verdict(&self) -> String {
-        let verdicts = ["REFUSED", "SAT", "UNSAT", "SPENT"];
-        format!("{} {}", verdicts[self.answer[0] as usize], self.answer[1])
+        let [verdict, number, _, first, second] = self.answer;
+        let line = ["REFUSED", "SAT", "UNSAT", "SPENT"][verdict as usize];
+        match verdict {
+            raw::REFUSED => format!("{line} {number}"),
+            _ => format!("{line} {number} splits {first} {second}"),
+        }
     }
+}
+
+/// The numbers of an answer that isn't a refusal.
+fn numbers(verdict: u32, counts: Counts, rows: u32) -> [u32; raw::ANSWER_LENGTH] {
+    [verdict, counts.nodes, rows, counts.first, counts.second]
 }
 
 /// The answer to each guard, if both desks give the same numbers in all buffers.
@@ -159,7 +169,13 @@ mod tests {
 
     #[test]
     fn both_desks_give_the_same_numbers() {
-        let expected = ["SAT 3", "SPENT 2", "UNSAT 11", "SPENT 10", "REFUSED 8"];
+        let expected = [
+            "SAT 3 splits 1 0",
+            "SPENT 2 splits 1 0",
+            "UNSAT 11 splits 0 5",
+            "SPENT 10 splits 0 5",
+            "REFUSED 8",
+        ];
         assert_eq!(answers(&GUARDS).unwrap(), expected);
     }
 

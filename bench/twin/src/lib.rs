@@ -19,28 +19,50 @@ use std::fmt;
 
 use crate::guard::Guard;
 use crate::problem::Problem;
-use crate::search::{search, Outcome};
+use crate::search::{search, Outcome, Tally};
 use crate::state::State;
 
 /// How many numbers the buffers have to hold.
 pub const ROWS_LENGTH: usize = 16_384;
 pub const PLACES_LENGTH: usize = 24;
 
+/// The nodes of a search, after SPENT the budget, and its splits by kind.
+#[derive(Clone, Copy, Debug, PartialEq, Eq)]
+pub struct Counts {
+    pub nodes: u32,
+    pub first: u32,
+    pub second: u32,
+}
+
 #[derive(Clone, Copy, Debug, PartialEq, Eq)]
 pub enum Answer {
     Refused { question: u32 },
-    Sat { nodes: u32, rows: u32 },
-    Unsat { nodes: u32 },
-    Spent { budget: u32 },
+    Sat { counts: Counts, rows: u32 },
+    Unsat { counts: Counts },
+    Spent { counts: Counts },
 }
 
+impl Answer {
+    /// The verdict and its number, which is line one of `guarddesk`.
+    pub fn line_one(&self) -> String {
+        match self {
+            Answer::Refused { question } => format!("REFUSED {question}"),
+            Answer::Sat { counts, .. } => format!("SAT {}", counts.nodes),
+            Answer::Unsat { counts } => format!("UNSAT {}", counts.nodes),
+            Answer::Spent { counts } => format!("SPENT {}", counts.nodes),
+        }
+    }
+}
+
+/// As `searchvectors` prints it: line one, and the splits.
 impl fmt::Display for Answer {
     fn fmt(&self, f: &mut fmt::Formatter) -> fmt::Result {
+        write!(f, "{}", self.line_one())?;
         match self {
-            Answer::Refused { question } => write!(f, "REFUSED {question}"),
-            Answer::Sat { nodes, .. } => write!(f, "SAT {nodes}"),
-            Answer::Unsat { nodes } => write!(f, "UNSAT {nodes}"),
-            Answer::Spent { budget } => write!(f, "SPENT {budget}"),
+            Answer::Refused { .. } => Ok(()),
+            Answer::Sat { counts, .. } | Answer::Unsat { counts } | Answer::Spent { counts } => {
+                write!(f, " splits {} {}", counts.first, counts.second)
+            }
         }
     }
 }
@@ -83,14 +105,21 @@ fn answer(
     };
     let problem = Problem::new(&guard);
     let (outcome, state) = search(&problem, budget);
+    let counts = |tally: Tally| Counts {
+        nodes: budget - tally.left,
+        first: tally.first,
+        second: tally.second,
+    };
     match outcome {
-        Outcome::Open(left) => Answer::Sat {
-            nodes: budget - left,
+        Outcome::Open(tally) => Answer::Sat {
+            counts: counts(tally),
             rows: draw(&guard, &problem, &state) as u32,
         },
-        Outcome::Closed(left) => Answer::Unsat {
-            nodes: budget - left,
+        Outcome::Closed(tally) => Answer::Unsat {
+            counts: counts(tally),
         },
-        Outcome::Spent => Answer::Spent { budget },
+        Outcome::Spent(tally) => Answer::Spent {
+            counts: counts(tally),
+        },
     }
 }

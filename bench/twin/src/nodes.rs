@@ -59,9 +59,10 @@ fn sink_all(problem: &Problem, state: &State, levels: &mut [u8; PLACES]) -> bool
     any
 }
 
-/// A decision: a term, and the label of one variant.
+/// A decision: whether it is of the first kind, a term, and the label of one variant.
 #[derive(Clone, Copy)]
 pub struct Decision {
+    pub first: bool,
     pub term: Term,
     pub variant: Label,
 }
@@ -78,6 +79,7 @@ fn first_kind(problem: &Problem, state: &State) -> Option<Decision> {
         read.key != 0 && label & read.variant != 0 && label != read.variant
     });
     splits.map(|read| Decision {
+        first: true,
         term: read.term,
         variant: read.variant,
     })
@@ -91,6 +93,7 @@ fn second_kind(problem: &Problem, state: &State) -> Option<Decision> {
         label & problem.fieldless(term) == label && label.count_ones() >= 2
     });
     splits.map(|term| Decision {
+        first: false,
         term,
         variant: 1 << state.label(term).trailing_zeros(),
     })

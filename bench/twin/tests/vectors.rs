@@ -1,6 +1,7 @@
-//! All vectors through the whole call, checked by the outside solver: verdicts, node counts, messages, and every number of
-//! both buffers.
+//! All vectors through the whole call, checked by the outside solver: verdicts, node counts, splits, messages, and every number
+//! of both buffers.
 
+use oracle::answer::line_one;
 use oracle::guard::Limits;
 use oracle::read;
 use oracle::shown::check_shown;
@@ -19,6 +20,7 @@ fn all_vectors() {
         let mut places = vec![NOISE; PLACES_LENGTH + 5];
         let answer = decide(&vector.file, vector.budget, &mut rows, &mut places);
         assert_eq!(answer.to_string(), vector.answer, "{}", vector.name);
+        assert_eq!(answer.line_one(), line_one(&vector.answer));
         let right = match (answer, read::read(&vector.file, Limits::BASE)) {
             (Answer::Sat { rows: many, .. }, Ok(guard)) => {
                 check_shown(&guard, many as usize, &rows, &places)

@@ -13,23 +13,23 @@ use Rattle.explain.specs.declared.Explained.{Explained}
 use Rattle.answernumbers.specs.Numbers.{answerNumbers}
 use Rattle.desklink.specs.Links.{Links, LinksExplained}
 
-pub too-short : (bytes : List ℕ) (budget : ℕ) (rows places : List ℤ) (numbers : List ℕ) → length numbers < 3 → Links base bytes budget rows places numbers 1 rows places numbers
+pub too-short : (bytes : List ℕ) (budget : ℕ) (rows places : List ℤ) (numbers : List ℕ) → length numbers < 5 → Links base bytes budget rows places numbers 1 rows places numbers
 too-short bytes budget rows places numbers h = record { short = λ _. (refl, (refl, (refl, refl))); enough = λ l. absurd (omega (arith, h, l)) }
 
 pub answered : (bytes : List ℕ) (budget : ℕ) (rows places : List ℤ) (numbers : List ℕ) (r : Answer) (rows′ places′ : List ℤ) (numbers′ : List ℕ)
-    → ¬ (length numbers < 3) → Decides base bytes budget rows places r rows′ places′ → numbers′ ≡ answerNumbers r ++ drop 3 numbers
+    → ¬ (length numbers < 5) → Decides base bytes budget rows places r rows′ places′ → numbers′ ≡ answerNumbers r ++ drop 5 numbers
     → Links base bytes budget rows places numbers 0 rows′ places′ numbers′
 answered bytes budget rows places numbers r rows′ places′ numbers′ h d told =
     record { short = λ l. absurd (h l); enough = λ _. (refl, record { answer = r; decided = d; told = told }) }
 
 -- ---- the second call
 
-pub too-short-explained : (bytes : List ℕ) (budget : ℕ) (rows places : List ℤ) (lent numbers : List ℕ) → length numbers < 3
+pub too-short-explained : (bytes : List ℕ) (budget : ℕ) (rows places : List ℤ) (lent numbers : List ℕ) → length numbers < 5
     → LinksExplained base bytes budget rows places lent numbers 18446744073709551615 rows places lent numbers
 too-short-explained bytes budget rows places lent numbers h = record { short = λ _. (refl, (refl, (refl, (refl, refl)))); enough = λ l. absurd (omega (arith, h, l)) }
 
 pub answered-explained : (bytes : List ℕ) (budget : ℕ) (rows places : List ℤ) (lent numbers : List ℕ) (r : Explained) (rows′ places′ : List ℤ) (lent′ numbers′ : List ℕ)
-    → ¬ (length numbers < 3) → Explains base bytes budget rows places lent r rows′ places′ lent′ → numbers′ ≡ answerNumbers (r .answer) ++ drop 3 numbers
+    → ¬ (length numbers < 5) → Explains base bytes budget rows places lent r rows′ places′ lent′ → numbers′ ≡ answerNumbers (r .answer) ++ drop 5 numbers
     → LinksExplained base bytes budget rows places lent numbers (r .bytes) rows′ places′ lent′ numbers′
 answered-explained bytes budget rows places lent numbers r rows′ places′ lent′ numbers′ h d told =
     record { short = λ l. absurd (h l); enough = λ _. record { answer = r .answer; explained = d; told = told } }

@@ -1,4 +1,4 @@
--- What a program in another language is given by its calls: the answer as three numbers, and a return code or the length of a record. Assumes nothing:
+-- What a program in another language is given by its calls: the answer as five numbers, and a return code or the length of a record. Assumes nothing:
 -- definitions.
 use mathlib.Core.Path.{_≡_}
 use mathlib.Core.Bool.{cond}

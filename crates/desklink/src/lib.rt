@@ -9,7 +9,7 @@ ghost use Rattle.serialize.specs.NumberList.{listFile};
 ghost use Rattle.filewriter.specs.Writer.{answerTo, leftBy};
 ghost use Rattle.desklink.specs.Links.{Links, LinksExplained, minus, writtenCode};
 
-// The answer to a guard file within a budget of nodes, as three numbers in `numbers`; the rest as `decide` has it. Returns
+// The answer to a guard file within a budget of nodes, as five numbers in `numbers`; the rest as `decide` has it. Returns
 // 0, or 1 if `numbers` is too short for an answer; then nothing is written.
 #[no_mangle]
 pub extern "C" fn guarddesk_decide(
@@ -21,7 +21,7 @@ pub extern "C" fn guarddesk_decide(
 ) -> u32
     ensures { λ r. ⌜ Links base (now (file .entry)) budget (now (rows .entry)) (now (places .entry)) (now (numbers .entry)) r (now (rows .exit)) (now (places .exit)) (now (numbers .exit)) ⌝ }
 {
-    if numbers.len() < 3 {
+    if numbers.len() < 5 {
         return 1;
     }
     let answer = decide::decide(file, budget, rows, places);
@@ -42,7 +42,7 @@ pub extern "C" fn guarddesk_explain(
 ) -> usize
     ensures { λ r. ⌜ LinksExplained base (now (file .entry)) budget (now (rows .entry)) (now (places .entry)) (now («record» .entry)) (now (numbers .entry)) r (now (rows .exit)) (now (places .exit)) (now («record» .exit)) (now (numbers .exit)) ⌝ }
 {
-    if numbers.len() <= 2 {
+    if numbers.len() <= 4 {
         return 18446744073709551615;
     }
     let e = explain::explain(file, budget, rows, places, record);

@@ -173,7 +173,7 @@ fn short_calls(
 
 /// All calls without a record.
 pub fn decide(known: &Known, random: &mut Random) -> Vec<Call> {
-    let budgets = known.budgets();
+    let budgets = known.budgets(random);
     let call = |&budget: &u32| Call::new(random, known, budget, None);
     let mut calls: Vec<Call> = budgets.iter().map(call).collect();
     calls.extend(short_calls(random, &budgets, |_| None));
@@ -195,7 +195,7 @@ fn rooms(known: &Known, random: &mut Random) -> [usize; 5] {
 
 /// All calls with a record: every budget with some room, and after UNSAT every room with some budget.
 pub fn explain(known: &Known, random: &mut Random) -> Vec<Call> {
-    let budgets = known.budgets();
+    let budgets = known.budgets(random);
     let rooms = rooms(known, random);
     let mut calls = Vec::new();
     for &budget in &budgets {

@@ -13,6 +13,7 @@ use guarddesk::raw;
 use oracle::answer::Answer;
 use oracle::random::Random;
 use oracle::read::Question;
+use oracle::search::Splits;
 use oracle::shown::check_known_call;
 use oracle::vectors::hex;
 
@@ -21,19 +22,29 @@ const NODE_BYTES: usize = 3;
 /// The question that an outgrown record gets a no to.
 const RECORD_FITS: u32 = 11;
 
-/// The answer that the three numbers stand for, with its number of rows.
+/// The answer that the five numbers stand for, with its number of rows. A refusal has no splits.
 fn claimed(numbers: &[u32]) -> Option<(Answer, usize)> {
-    let [verdict, number, rows] = numbers[..] else {
+    let [verdict, number, rows, first, second] = numbers[..] else {
         return None;
     };
+    let splits = Splits { first, second };
     let answer = match verdict {
-        raw::REFUSED => {
+        raw::REFUSED if splits == Splits::default() => {
             let question = (number as usize).checked_sub(1)?;
             Answer::Refused(*Question::ALL.get(question)?)
         }
-        raw::SAT => Answer::Sat { nodes: number },
-        raw::UNSAT => Answer::Unsat { nodes: number },
-        raw::SPENT => Answer::Spent { budget: number },
+        raw::SAT => Answer::Sat {
+            nodes: number,
+            splits,
+        },
+        raw::UNSAT => Answer::Unsat {
+            nodes: number,
+            splits,
+        },
+        raw::SPENT => Answer::Spent {
+            budget: number,
+            splits,
+        },
         _ => return None,
     };
     Some((answer, rows as usize))
@@ -169,7 +180,7 @@ impl<D: Desk> Comparer<D> {
         let margins = margins && self.record.margins_kept();
         ensure(margins, "something is written outside a buffer")?;
         let kept = self.answer.kept(raw::ANSWER_LENGTH);
-        ensure(kept, "something is written outside the three numbers")
+        ensure(kept, "something is written outside the five numbers")
     }
 
     fn numbers(&self) -> &[u32] {
@@ -177,7 +188,7 @@ impl<D: Desk> Comparer<D> {
     }
 
     fn check_outgrown(&self) -> Result<usize, String> {
-        let refused = self.numbers() == [raw::REFUSED, RECORD_FITS, 0];
+        let refused = self.numbers() == [raw::REFUSED, RECORD_FITS, 0, 0, 0];
         ensure(refused, "expected REFUSED 11")?;
         let clear = all_zero(self.rows.content()) && all_zero(self.places.content());
         ensure(clear, "a buffer isn't all 0 after REFUSED 11")?;
@@ -303,6 +314,71 @@ mod tests {
     }
 
     #[test]
+    fn wrong_splits_are_found() {
+        use raw::{REFUSED, SAT, SPENT, UNSAT};
+        for (verdict, words) in [
+            (SAT, "expected SAT"),
+            (UNSAT, "expected UNSAT"),
+            (SPENT, "expected SPENT"),
+            (REFUSED, "no answer"),
+        ] {
+            for kind in [3, 4] {
+                assert_found(after(verdict, move |_, _, answer| answer[kind] += 1), words);
+            }
+        }
+        // The kinds exchanged, and the splits of the whole search after SPENT.
+        for verdict in [SAT, UNSAT, SPENT] {
+            assert_found(after(verdict, |_, _, answer| answer.swap(3, 4)), "splits");
+        }
+        let whole: WrongDecide = |file, budget, rows, places, answer| {
+            let code = decide_into(file, budget, rows, places, answer);
+            if code == raw::ANSWERED && answer[0] == SPENT {
+                let found = &mut [0; raw::ANSWER_LENGTH];
+                decide_into(file, 2_000, rows, places, found);
+                rows.fill(0);
+                places.fill(0);
+                answer[3..5].copy_from_slice(&found[3..]);
+            }
+            code
+        };
+        assert_found(Decide(whole), "expected SPENT");
+        // A split counts with its children only, so not where the budget cut them off.
+        let late: WrongDecide = |file, budget, rows, places, answer| {
+            let code = decide_into(file, budget, rows, places, answer);
+            if code == raw::ANSWERED && answer[0] == SPENT && budget > 0 {
+                let found = &mut [0; raw::ANSWER_LENGTH];
+                decide_into(file, budget - 1, rows, places, found);
+                answer[3..5].copy_from_slice(&found[3..]);
+            }
+            code
+        };
+        assert_found(Decide(late), "expected SPENT");
+        let explained: WrongExplain = |file, budget, lent| {
+            let bytes = explain(file, budget, lent);
+            if bytes != library::ANSWER_TOO_SHORT && lent.answer[0] == UNSAT {
+                lent.answer.swap(3, 4);
+            }
+            bytes
+        };
+        assert_found(Explain(explained), "expected UNSAT");
+    }
+
+    /// As before request #105: three numbers suffice.
+    #[test]
+    fn an_answer_in_three_numbers_is_found() {
+        let three: WrongDecide = |file, budget, rows, places, answer| {
+            if answer.len() < 3 || answer.len() >= raw::ANSWER_LENGTH {
+                return decide_into(file, budget, rows, places, answer);
+            }
+            let mut five = [0; raw::ANSWER_LENGTH];
+            let code = decide_into(file, budget, rows, places, &mut five);
+            answer[..3].copy_from_slice(&five[..3]);
+            code
+        };
+        assert_found(Decide(three), "what it returned is another");
+    }
+
+    #[test]
     fn a_budget_off_by_one_is_found() {
         let less: WrongDecide = |file, budget, rows, places, answer| {
             decide_into(file, budget.saturating_sub(1), rows, places, answer)
@@ -415,11 +491,11 @@ mod tests {
     #[test]
     fn what_is_written_past_the_answer_is_found() {
         let past = |_: &mut [i32], _: &mut [i32], answer: &mut [u32]| {
-            if let Some(number) = answer.get_mut(3) {
+            if let Some(number) = answer.get_mut(raw::ANSWER_LENGTH) {
                 *number = 0;
             }
         };
-        assert_found(after(raw::SAT, past), "outside the three numbers");
+        assert_found(after(raw::SAT, past), "outside the five numbers");
     }
 
     fn explain(file: &[u8], budget: u32, lent: &mut Lent) -> usize {

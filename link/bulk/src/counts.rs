@@ -150,7 +150,7 @@ impl Counts {
     /// A file with the solver's answer within its own limit.
     pub fn add_file(&mut self, answer: Answer, record: usize) {
         self.files.add(answer);
-        if let Answer::Sat { nodes } | Answer::Unsat { nodes } = answer {
+        if let Answer::Sat { nodes, .. } | Answer::Unsat { nodes, .. } = answer {
             self.most_nodes = self.most_nodes.max(nodes);
         }
         if let Answer::Unsat { .. } = answer {

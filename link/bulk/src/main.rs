@@ -271,7 +271,7 @@ mod tests {
         });
         assert_eq!(texts[0], texts[1]);
         assert!(
-            texts[0].contains("fault     answered SAT 9, expected SAT"),
+            texts[0].contains("fault     answered SAT 9 splits "),
             "{}",
             texts[0]
         );

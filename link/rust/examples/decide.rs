@@ -14,7 +14,14 @@ fn main() {
 
     let answer = decide(&[&types[..], &terms, &lines].concat(), 3);
     print!("{answer}");
-    if let Answer::Sat { messages, .. } = answer {
+    if let Answer::Sat {
+        first_splits,
+        second_splits,
+        messages,
+        ..
+    } = answer
+    {
+        println!("splits: {first_splits} of the first kind, {second_splits} of the second");
         for (term, message) in messages.terms().enumerate() {
             println!("term {term}: {}", message.with_names(&names));
         }

@@ -1,5 +1,5 @@
 //! Explains case h of document 01, three flags that all differ: prints the branches of its search, and checks their record.
-use guarddesk::{check, explain, Question};
+use guarddesk::{check, explain, Answer, Question};
 
 fn main() -> Result<(), Question> {
     // Type 0: two variants without fields.
@@ -12,6 +12,14 @@ fn main() -> Result<(), Question> {
 
     let explanation = explain(&file, 1000);
     print!("{}", explanation.answer);
+    if let Answer::Unsat {
+        first_splits,
+        second_splits,
+        ..
+    } = explanation.answer
+    {
+        println!("splits: {first_splits} of the first kind, {second_splits} of the second");
+    }
     if let Some(refutation) = explanation.refutation {
         print!("{refutation}");
         check(&file, refutation.bytes())?;

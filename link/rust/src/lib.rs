@@ -37,6 +37,9 @@ use std::fmt;
 /// The answer to a guard file.
 ///
 /// Its text is what the program `guarddesk` prints: the verdict with its number and, after SAT, the [`Messages`].
+///
+/// All but a refusal have the splits at the nodes that were visited, by kind, which say what the nodes went on. A larger budget
+/// than one that suffices changes no count.
 #[derive(Clone, Debug, PartialEq, Eq)]
 pub enum Answer {
     /// The bytes are no guard file.
@@ -48,18 +51,30 @@ pub enum Answer {
     Sat {
         /// How many nodes the search visited.
         nodes: u32,
+        /// How many of them asked whether a term is the variant that a field is read of.
+        first_splits: u32,
+        /// How many of them asked whether a term with only variants without fields left is the lowest of them.
+        second_splits: u32,
         /// A message for each term of the file; with them the guard holds.
         messages: Messages,
     },
-    /// The guard cannot hold, whatever the messages.
+    /// The guard cannot hold, whatever the messages. There is a node more than twice the splits of both kinds.
     Unsat {
         /// How many nodes the search visited.
         nodes: u32,
+        /// As after [`Answer::Sat`].
+        first_splits: u32,
+        /// As after [`Answer::Sat`].
+        second_splits: u32,
     },
     /// The search takes more nodes than the budget.
     Spent {
         /// The budget.
         budget: u32,
+        /// As after [`Answer::Sat`], at the nodes within the budget: at the last one too if it asked and got no answer.
+        first_splits: u32,
+        /// Likewise.
+        second_splits: u32,
     },
 }
 
@@ -69,14 +84,25 @@ pub fn decide(file: &[u8], budget: u32) -> Answer {
     let mut places = [0; raw::PLACES_LENGTH];
     let mut answer = [0; raw::ANSWER_LENGTH];
     let code = raw::decide_into(file, budget, &mut rows, &mut places, &mut answer);
-    match (code, answer) {
-        (raw::ANSWERED, [raw::REFUSED, question, _]) => Answer::Refused { question },
-        (raw::ANSWERED, [raw::SAT, nodes, many]) => Answer::Sat {
-            nodes,
+    let [verdict, number, many, first_splits, second_splits] = answer;
+    match (code, verdict) {
+        (raw::ANSWERED, raw::REFUSED) => Answer::Refused { question: number },
+        (raw::ANSWERED, raw::SAT) => Answer::Sat {
+            nodes: number,
+            first_splits,
+            second_splits,
             messages: Messages::read(file, many as usize, &rows, &places),
         },
-        (raw::ANSWERED, [raw::UNSAT, nodes, _]) => Answer::Unsat { nodes },
-        (raw::ANSWERED, [raw::SPENT, budget, _]) => Answer::Spent { budget },
+        (raw::ANSWERED, raw::UNSAT) => Answer::Unsat {
+            nodes: number,
+            first_splits,
+            second_splits,
+        },
+        (raw::ANSWERED, raw::SPENT) => Answer::Spent {
+            budget: number,
+            first_splits,
+            second_splits,
+        },
         _ => unreachable!("the library's contract has no such answer: code {code}, {answer:?}"),
     }
 }
@@ -105,7 +131,7 @@ pub struct Explanation {
 pub fn explain(file: &[u8], budget: u32) -> Explanation {
     let answer = decide(file, budget);
     let refutation = match answer {
-        Answer::Unsat { nodes } => Some(refutation(file, nodes)),
+        Answer::Unsat { nodes, .. } => Some(refutation(file, nodes)),
         _ => None,
     };
     Explanation { answer, refutation }
@@ -136,9 +162,11 @@ impl fmt::Display for Answer {
     fn fmt(&self, f: &mut fmt::Formatter<'_>) -> fmt::Result {
         match self {
             Answer::Refused { question } => writeln!(f, "REFUSED {question}"),
-            Answer::Sat { nodes, messages } => write!(f, "SAT {nodes}\n{messages}"),
-            Answer::Unsat { nodes } => writeln!(f, "UNSAT {nodes}"),
-            Answer::Spent { budget } => writeln!(f, "SPENT {budget}"),
+            Answer::Sat {
+                nodes, messages, ..
+            } => write!(f, "SAT {nodes}\n{messages}"),
+            Answer::Unsat { nodes, .. } => writeln!(f, "UNSAT {nodes}"),
+            Answer::Spent { budget, .. } => writeln!(f, "SPENT {budget}"),
         }
     }
 }

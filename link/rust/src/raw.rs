@@ -8,9 +8,9 @@
 //! let mut rows = [0; ROWS_LENGTH];
 //! let mut places = [0; PLACES_LENGTH];
 //! let mut answer = [0; ANSWER_LENGTH];
-//! // The guard without types, terms or lines: SAT, one node, no rows.
+//! // The guard without types, terms or lines: SAT, one node, no rows, no splits.
 //! let code = decide_into(&[0, 0, 0], 1, &mut rows, &mut places, &mut answer);
-//! assert_eq!((code, answer), (ANSWERED, [SAT, 1, 0]));
+//! assert_eq!((code, answer), (ANSWERED, [SAT, 1, 0, 0, 0]));
 //! ```
 
 /// How many numbers the row buffer has to hold.
@@ -18,7 +18,7 @@ pub const ROWS_LENGTH: usize = 16384;
 /// How many numbers the place buffer has to hold.
 pub const PLACES_LENGTH: usize = 24;
 /// How many numbers the answer has.
-pub const ANSWER_LENGTH: usize = 3;
+pub const ANSWER_LENGTH: usize = 5;
 /// How many bytes of a record suffice for each node of the node count.
 pub const RECORD_BYTES_PER_NODE: usize = 3;
 
@@ -34,11 +34,11 @@ pub const ACCEPTED: u32 = 0;
 
 /// The verdict on what is no guard file, or on short buffers; the answer's second number is the question that got a no.
 pub const REFUSED: u32 = 0;
-/// The verdict on a guard that can hold; node count and number of rows follow.
+/// The verdict on a guard that can hold; node count, number of rows and splits follow.
 pub const SAT: u32 = 1;
-/// The verdict on a guard that cannot hold; the node count follows.
+/// The verdict on a guard that cannot hold; the node count, 0 and splits follow.
 pub const UNSAT: u32 = 2;
-/// The verdict on a search of more nodes than the budget; the budget follows.
+/// The verdict on a search of more nodes than the budget; the budget, 0 and splits follow.
 pub const SPENT: u32 = 3;
 
 // As link/guarddesk.h has it.
@@ -86,10 +86,11 @@ extern "C" {
 
 /// Decides a guard file within a budget of nodes. Buffers of any length are safe.
 ///
-/// [`ANSWER_TOO_SHORT`] says that `answer` has fewer than three numbers; then nothing is written. Otherwise the code is
-/// [`ANSWERED`], and the first three numbers of `answer` are the verdict, its number, and the number of rows (0 but after
-/// [`SAT`]); the others stay as they were. After [`SAT`] the rows and places are laid out as `link/guarddesk.h` says, with
-/// zeros to the end of both buffers; after every other verdict both are all zero.
+/// [`ANSWER_TOO_SHORT`] says that `answer` has fewer than five numbers; then nothing is written. Otherwise the code is
+/// [`ANSWERED`], and the first five numbers of `answer` are the verdict, its number, the number of rows (0 but after [`SAT`]),
+/// and the splits of the first and of the second kind (0 after [`REFUSED`]); the others stay as they were. After [`SAT`] the
+/// rows and places are laid out as `link/guarddesk.h` says, with zeros to the end of both buffers; after every other verdict
+/// both are all zero.
 #[allow(unsafe_code)]
 pub fn decide_into(
     file: &[u8],
@@ -119,7 +120,7 @@ pub fn decide_into(
 /// Decides as [`decide_into`], and after [`UNSAT`] writes the record of the search in front of `record`. Buffers of any length
 /// are safe.
 ///
-/// Nothing says that `answer` has fewer than three numbers; then nothing is written. Otherwise it is the number of bytes of the
+/// Nothing says that `answer` has fewer than five numbers; then nothing is written. Otherwise it is the number of bytes of the
 /// record, 0 but after [`UNSAT`], and bytes behind the record are zero. [`RECORD_BYTES_PER_NODE`] times the node count suffice; a
 /// record that doesn't fit is [`REFUSED`], question 11, with all three buffers zero. `link/guarddesk.h` has a record's numbers.
 #[allow(unsafe_code)]
@@ -186,19 +187,23 @@ mod tests {
             (ROWS_LENGTH, PLACES_LENGTH - 1),
             (0, 0),
         ] {
-            let (mut rows, mut places, mut answer) = (vec![7; rows], vec![7; places], [7; 3]);
+            let (mut rows, mut places, mut answer) =
+                (vec![7; rows], vec![7; places], [7; ANSWER_LENGTH]);
             let code = decide_into(NO_GUARD, 1, &mut rows, &mut places, &mut answer);
-            assert_eq!((code, answer), (ANSWERED, [REFUSED, 1, 0]));
+            assert_eq!((code, answer), (ANSWERED, [REFUSED, 1, 0, 0, 0]));
             assert!(rows.iter().chain(&places).all(|&n| n == 0));
         }
     }
 
     #[test]
     fn longer_buffers_are_cleared_to_their_end() {
-        let (mut rows, mut places, mut answer) =
-            ([7; ROWS_LENGTH + 5], [7; PLACES_LENGTH + 5], [7; 3]);
+        let (mut rows, mut places, mut answer) = (
+            [7; ROWS_LENGTH + 5],
+            [7; PLACES_LENGTH + 5],
+            [7; ANSWER_LENGTH],
+        );
         let code = decide_into(NO_GUARD, 1, &mut rows, &mut places, &mut answer);
-        assert_eq!((code, answer), (ANSWERED, [SAT, 1, 0]));
+        assert_eq!((code, answer), (ANSWERED, [SAT, 1, 0, 0, 0]));
         assert!(rows.iter().chain(&places).all(|&n| n == 0));
     }
 
@@ -215,9 +220,33 @@ mod tests {
 
     #[test]
     fn a_longer_answer_buffer_keeps_its_rest() {
-        let (mut rows, mut places, mut answer) = ([7; ROWS_LENGTH], [7; PLACES_LENGTH], [7; 5]);
+        let (mut rows, mut places, mut answer) = ([7; ROWS_LENGTH], [7; PLACES_LENGTH], [7; 7]);
         let code = decide_into(NO_GUARD, 1, &mut rows, &mut places, &mut answer);
-        assert_eq!((code, answer), (ANSWERED, [SAT, 1, 0, 7, 7]));
+        assert_eq!((code, answer), (ANSWERED, [SAT, 1, 0, 0, 0, 7, 7]));
+    }
+
+    #[test]
+    fn splits_are_the_fourth_and_fifth_number() {
+        // A list that is its own tail, split on for its tail; and a flag that is neither of its two values.
+        let list: &[u8] = &[2, 0, 2, 0, 2, 0, 1, 2, 0, 1, 3, 0, 1, 1, 1, 0, 0, 1];
+        let flag: &[u8] = &[1, 2, 0, 0, 3, 0, 0, 2, 0, 0, 2, 0, 1, 2, 1, 0, 1, 1, 0, 2];
+        let mut answer = [7; ANSWER_LENGTH];
+        for (file, budget, expected) in [
+            (list, 1, [SPENT, 1, 0, 1, 0]),
+            (list, 2, [SPENT, 2, 0, 1, 0]),
+            (list, 3, [SAT, 3, 1, 1, 0]),
+            (flag, 0, [SPENT, 0, 0, 0, 0]),
+            (flag, 1, [SPENT, 1, 0, 0, 1]),
+            (flag, 3, [UNSAT, 3, 0, 0, 1]),
+            (flag, 1000, [UNSAT, 3, 0, 0, 1]),
+        ] {
+            let (mut rows, mut places) = ([7; ROWS_LENGTH], [7; PLACES_LENGTH]);
+            decide_into(file, budget, &mut rows, &mut places, &mut answer);
+            assert_eq!(answer, expected, "{file:?} with {budget}");
+            let room = &mut [7; 9];
+            explain_into(file, budget, &mut rows, &mut places, room, &mut answer);
+            assert_eq!(answer, expected, "{file:?} with {budget}");
+        }
     }
 
     /// What `explain_into` returns for the dead guard, and the three buffers that it had been lent full of sevens.
@@ -231,8 +260,9 @@ mod tests {
 
     #[test]
     fn a_record_has_zeros_behind_it() {
-        let (many, shown, record, answer) = explained(5, 4);
-        assert_eq!((many, &answer[..]), (Some(2), &[UNSAT, 1, 0, 7][..]));
+        let (many, shown, record, answer) = explained(5, ANSWER_LENGTH + 1);
+        let expected = &[UNSAT, 1, 0, 0, 0, 7][..];
+        assert_eq!((many, &answer[..]), (Some(2), expected));
         assert_eq!(record, [2, 0, 0, 0, 0]);
         assert!(shown.iter().all(|&n| n == 0));
         assert_eq!(check(DEAD, &DEAD_RECORD), ACCEPTED);
@@ -242,8 +272,9 @@ mod tests {
     #[test]
     fn a_record_that_does_not_fit_is_question_11() {
         for room in 0..DEAD_RECORD.len() {
-            let (many, shown, record, answer) = explained(room, 3);
-            assert_eq!((many, &answer[..]), (Some(0), &[REFUSED, 11, 0][..]));
+            let (many, shown, record, answer) = explained(room, ANSWER_LENGTH);
+            let expected = &[REFUSED, 11, 0, 0, 0][..];
+            assert_eq!((many, &answer[..]), (Some(0), expected));
             assert!(shown.iter().all(|&n| n == 0) && record.iter().all(|&n| n == 0));
         }
     }

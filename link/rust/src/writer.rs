@@ -34,7 +34,7 @@ impl std::error::Error for Refusal {}
 ///
 /// // A number type; the numbers -3 and 4; a line that says they are equal.
 /// let file = write(&[1, 0, 2, 1, 0, -3, 1, 0, 4, 1, 0, 0, 1])?;
-/// assert_eq!(decide(&file, 1), Answer::Unsat { nodes: 1 });
+/// assert!(matches!(decide(&file, 1), Answer::Unsat { nodes: 1, .. }));
 /// // There is one type, so none is numbered 1.
 /// assert_eq!(write(&[1, 0, 1, 0, 1, 0]), Err(Refusal(5)));
 /// # Ok::<(), Refusal>(())

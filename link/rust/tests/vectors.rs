@@ -1,4 +1,4 @@
-//! All vectors of the repository through the library: verdicts and their numbers, records, what the checker says of others, and files
+//! All vectors of the repository through the library: verdicts, node counts and splits, records, what the checker says of others, and files
 //! written from lists are those of the outside solver; and the records that the library writes are accepted.
 use guarddesk::{check, decide, explain, raw, write, Answer, Branch, Question, Refusal};
 
@@ -20,17 +20,48 @@ fn for_each_line(file: &str, many: usize, each: impl Fn([&str; 4])) {
     assert!(columns.map(each).count() > many, "{file}");
 }
 
+/// The splits of either kind; a refusal has none.
+fn splits(answer: &Answer) -> Option<(u32, u32)> {
+    match *answer {
+        Answer::Refused { .. } => None,
+        Answer::Sat {
+            first_splits,
+            second_splits,
+            ..
+        }
+        | Answer::Unsat {
+            first_splits,
+            second_splits,
+            ..
+        }
+        | Answer::Spent {
+            first_splits,
+            second_splits,
+            ..
+        } => Some((first_splits, second_splits)),
+    }
+}
+
 fn decide_all() {
     for_each_line("vectors.txt", 2000, |[name, budget, hex, expected]| {
-        let answer = decide(&bytes(hex), budget.parse().unwrap()).to_string();
-        assert_eq!(answer.lines().next(), Some(expected), "{name}");
+        let answer = decide(&bytes(hex), budget.parse().unwrap());
+        let text = answer.to_string();
+        let mut line = text.lines().next().unwrap_or_default().to_string();
+        if let Some((first, second)) = splits(&answer) {
+            line += &format!(" splits {first} {second}");
+        }
+        assert_eq!(line, expected, "{name}");
     });
 }
 
-fn nodes(branch: &Branch) -> u32 {
+/// The nodes and the splits of a tree.
+fn counts(branch: &Branch) -> (u32, u32) {
     match branch {
-        Branch::Closed(_) => 1,
-        Branch::Split { is, isnt, .. } => 1 + nodes(is) + nodes(isnt),
+        Branch::Closed(_) => (1, 0),
+        Branch::Split { is, isnt, .. } => {
+            let [is, isnt] = [is, isnt].map(|child| counts(child));
+            (1 + is.0 + isnt.0, 1 + is.1 + isnt.1)
+        }
     }
 }
 
@@ -39,9 +70,12 @@ fn explain_all() {
         let (file, budget) = (bytes(hex), budget.parse().unwrap());
         let explanation = explain(&file, budget);
         assert_eq!(explanation.answer, decide(&file, budget), "{name}");
+        let splits = splits(&explanation.answer);
         match (explanation.answer, explanation.refutation) {
-            (Answer::Unsat { nodes: many }, Some(refutation)) => {
-                assert_eq!(nodes(&refutation.tree()), many, "{name}");
+            (Answer::Unsat { nodes: many, .. }, Some(refutation)) => {
+                let (nodes, all) = counts(&refutation.tree());
+                assert_eq!(nodes, many, "{name}");
+                assert_eq!(Some(all), splits.map(|(a, b)| a + b), "{name}");
                 assert_eq!(check(&file, refutation.bytes()), Ok(()), "{name}");
             }
             (Answer::Unsat { .. }, None) | (_, Some(_)) => panic!("{name}"),

@@ -63,7 +63,7 @@ const ORDER: [&str; 16] = [
 ];
 
 /// The file of a case from `a` to `j`, with its budget.
-fn case(letter: &str) -> Option<(Vec<u8>, u32)> {
+pub fn case(letter: &str) -> Option<(Vec<u8>, u32)> {
     let (_, text, budget) = CASES.iter().find(|(name, ..)| *name == letter)?;
     Some((unhex(&text.replace('X', LISTS))?, *budget))
 }

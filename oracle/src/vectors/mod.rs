@@ -8,6 +8,7 @@ pub mod lists;
 mod numbers;
 pub mod profiles;
 pub mod records;
+mod splits;
 mod walks;
 
 use crate::answer::{answer, Answer};
@@ -67,15 +68,17 @@ pub fn all() -> Vec<Vector> {
     walks::add(&mut set);
     profiles::add(&mut set);
     far::add(&mut set);
+    splits::add(&mut set);
     set.0
 }
 
-/// Whether records and lists are drawn from a vector. Those of request #104
-/// came later: what was drawn before them stays as it is.
+/// Whether records and lists are drawn from a vector. Those of requests #104
+/// and #105 came later: what was drawn before them stays as it is.
 fn is_drawn_from(vector: &Vector) -> bool {
     let guard = read(&vector.file, Limits::BASE);
     let far = guard.is_ok_and(|guard| far::is_far(&guard.rows));
-    !far && !vector.name.starts_with(far::PREFIX)
+    let mut prefixes = [far::PREFIX, splits::PREFIX].into_iter();
+    !far && !prefixes.any(|prefix| vector.name.starts_with(prefix))
 }
 
 /// Draws from the named generator until there are so many different ones.

@@ -168,8 +168,8 @@ pub fn long() -> Vec<Profile> {
 /// Which kind of answer a guard has; each gets its share.
 fn class(answer: Answer) -> Option<usize> {
     match answer {
-        Answer::Sat { nodes: 1 } => Some(0),
-        Answer::Unsat { nodes: 1 } => Some(1),
+        Answer::Sat { nodes: 1, .. } => Some(0),
+        Answer::Unsat { nodes: 1, .. } => Some(1),
         Answer::Sat { .. } => Some(2),
         Answer::Unsat { .. } => Some(3),
         Answer::Refused(_) | Answer::Spent { .. } => None,

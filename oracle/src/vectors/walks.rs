@@ -80,13 +80,18 @@ fn late_pigeons(others: usize) -> Draft {
     draft
 }
 
+/// The node count of an accepted file.
+pub fn node_count(name: &str, file: &[u8]) -> u32 {
+    match answer(file, u32::MAX, Limits::BASE) {
+        Answer::Sat { nodes, .. } | Answer::Unsat { nodes, .. } => nodes,
+        other => panic!("{name} has no node count: {other}"),
+    }
+}
+
 /// A draft with budgets at, below and above its node count, and at the ends.
 fn budgets(set: &mut Set, name: &str, draft: &Draft) {
     let file = draft.bytes();
-    let count = match answer(&file, u32::MAX, Limits::BASE) {
-        Answer::Sat { nodes } | Answer::Unsat { nodes } => nodes,
-        other => panic!("{name} has no node count: {other}"),
-    };
+    let count = node_count(name, &file);
     let budgets = [
         ("zero", 0),
         ("one", 1),
@@ -111,8 +116,8 @@ fn random_walks(set: &mut Set) {
         for _ in 0..500 {
             let file = random::draft(&mut random, &profile).bytes();
             let (kind, kept, nodes) = match answer(&file, MOST, Limits::BASE) {
-                Answer::Sat { nodes } => ("sat", &mut sat, nodes),
-                Answer::Unsat { nodes } => ("unsat", &mut unsat, nodes),
+                Answer::Sat { nodes, .. } => ("sat", &mut sat, nodes),
+                Answer::Unsat { nodes, .. } => ("unsat", &mut unsat, nodes),
                 Answer::Refused(_) | Answer::Spent { .. } => continue,
             };
             if nodes > LEAST && *kept < EACH {

@@ -11,7 +11,7 @@ fn main() -> io::Result<()> {
     let mut places = [0; PLACES_LENGTH];
     let answer = decide(&file, 1_000_000, &mut rows, &mut places);
     let mut out = BufWriter::new(io::stdout().lock());
-    writeln!(out, "{answer}")?;
+    writeln!(out, "{}", answer.line_one())?;
     if let Answer::Sat { rows: many, .. } = answer {
         show(&mut out, &file, &rows[..4 * many as usize], &places)?;
     }

@@ -214,8 +214,9 @@ impl Set {
         })
     }
 
-    /// Request #104: the lists of its vectors, values near the ends of each
-    /// length beyond 32 bits, and output buffers that lack a byte of theirs.
+    /// Request #104: the lists of its vectors and of later ones, values near
+    /// the ends of each length beyond 32 bits, and output buffers that lack a
+    /// byte of theirs.
     fn far(&mut self, sources: &[Source], later: &[Source]) -> Result<(), String> {
         for (i, source) in later.iter().enumerate() {
             let room = match i % 3 {
