@@ -77,7 +77,11 @@ pub fn answer_text(
 {
     match answer {
         Answer::Refused { question } => put_verdict(out, b"REFUSED ", question),
-        Answer::Sat { nodes, rows: many, .. } => {
+        Answer::Sat {
+            nodes,
+            rows: many,
+            ..
+        } => {
             let next = put_verdict(out, b"SAT ", nodes);
             put_shown(out, next, bytes, many, rows, places)
         }

@@ -1,9 +1,9 @@
--- What a caller may take from the first number alone, for a file that is accepted: 1, and the buffers show messages that
--- make the guard hold; 2, and no messages do; 3, and the search takes more nodes than the budget. Each follows from the
--- contract. Assumes nothing.
+-- What a caller may take from the numbers, for a file that is accepted. First 1, and the buffers show messages that make the
+-- guard hold; 2, and no messages do, and the nodes are twice the splits and one; 3, and the search takes more nodes than the
+-- budget. Each follows from the contract. Assumes nothing.
 use mathlib.Core.Path.{_≡_, refl, ap, sym, subst, _∙_}
 use mathlib.Core.List.{List, _++_}
-use Prim.Native.Nat.{ℕ, _<_}
+use Prim.Native.Nat.{ℕ, _+_, _*_, _<_}
 use native.Mathlib.Omega.{arith}
 use lib.IntN.{ℤ}
 use lib.ListN.{length, drop, getD}
@@ -16,7 +16,7 @@ use Rattle.guard.specs.Search.{Counts, nodeCount}
 use Rattle.guard.specs.Shown.{Shows}
 use Rattle.guard.specs.declared.Answer.{Answer}
 use Rattle.guard.specs.declared.Answer.the-variants.{Refused, Sat, Unsat, Spent}
-use Rattle.decide.proofs.Corollaries.{spent-below-count}
+use Rattle.decide.proofs.Corollaries.{spent-below-count, unsat-twice}
 use Rattle.answernumbers.specs.Numbers.{answerNumbers}
 use Rattle.desklink.specs.Links.{Answers}
 
@@ -29,21 +29,14 @@ first-sat (Sat n f s r) rest e = (record { nodes = n; first = f; second = s }, (
 first-sat (Unsat n f s) rest e = absurd (omega (arith, e))
 first-sat (Spent n f s) rest e = absurd (omega (arith, e))
 
-first-unsat : (a : Answer) (rest : List ℕ) → getD (answerNumbers a ++ rest) 0 0 ≡ 2 → (n : Counts) × (outcomeOf a ≡ unsat n)
+-- and with the counts that it carries
+first-unsat : (a : Answer) (rest : List ℕ) → getD (answerNumbers a ++ rest) 0 0 ≡ 2
+    → (c : Counts) × (outcomeOf a ≡ unsat c) × (getD (answerNumbers a ++ rest) 1 0 ≡ c .nodes) × (getD (answerNumbers a ++ rest) 3 0 ≡ c .first) × (getD (answerNumbers a ++ rest) 4 0 ≡ c .second)
 unfolding answerNumbers outcomeOf
 first-unsat (Refused q) rest e = absurd (omega (arith, e))
 first-unsat (Sat n f s r) rest e = absurd (omega (arith, e))
-first-unsat (Unsat n f s) rest e = (record { nodes = n; first = f; second = s }, refl)
+first-unsat (Unsat n f s) rest e = (record { nodes = n; first = f; second = s }, refl, refl, refl, refl)
 first-unsat (Spent n f s) rest e = absurd (omega (arith, e))
-
--- and the counts that it carries
-first-counts : (a : Answer) (rest : List ℕ) → getD (answerNumbers a ++ rest) 0 0 ≡ 2
-    → (c : Counts) × (outcomeOf a ≡ unsat c) × (getD (answerNumbers a ++ rest) 1 0 ≡ c .nodes) × (getD (answerNumbers a ++ rest) 3 0 ≡ c .first) × (getD (answerNumbers a ++ rest) 4 0 ≡ c .second)
-unfolding answerNumbers outcomeOf
-first-counts (Refused q) rest e = absurd (omega (arith, e))
-first-counts (Sat n f s r) rest e = absurd (omega (arith, e))
-first-counts (Unsat n f s) rest e = (record { nodes = n; first = f; second = s }, refl, refl, refl, refl)
-first-counts (Spent n f s) rest e = absurd (omega (arith, e))
 
 first-spent : (a : Answer) (rest : List ℕ) → getD (answerNumbers a ++ rest) 0 0 ≡ 3 → (b : Counts) × (outcomeOf a ≡ spent b)
 unfolding answerNumbers outcomeOf
@@ -64,7 +57,7 @@ module _ (bytes : List ℕ) (budget : ℕ) (rows places : List ℤ) (numbers : L
       subst (λ (k : ℕ). Shows base g k rows′ places′) (sym (number 2 ∙ many)) (a .decided .shown g rest taken n s)
 
   pub told-unsat : getD numbers′ 0 0 ≡ 2 → ¬ Satisfiable g
-  told-unsat e = let (n, s) = first-unsat (a .answer) (drop 5 numbers) (sym (number 0) ∙ e) in a .decided .dead g rest taken n s
+  told-unsat e = let told = first-unsat (a .answer) (drop 5 numbers) (sym (number 0) ∙ e) in a .decided .dead g rest taken (told .0) (told .1)
 
   pub told-spent : getD numbers′ 0 0 ≡ 3 → budget < nodeCount g
   told-spent e = spent-below-count bytes budget rows places (a .answer) rows′ places′ (a .decided) g rest taken .0 (first-spent (a .answer) (drop 5 numbers) (sym (number 0) ∙ e))
@@ -72,6 +65,6 @@ module _ (bytes : List ℕ) (budget : ℕ) (rows places : List ℤ) (numbers : L
   -- document 02, #105: "For UNSAT, nodes are twice the two counts together and one more."
   pub told-twice : getD numbers′ 0 0 ≡ 2 → getD numbers′ 1 0 ≡ 2 * (getD numbers′ 3 0 + getD numbers′ 4 0) + 1
   told-twice e =
-      let told = first-counts (a .answer) (drop 5 numbers) (sym (number 0) ∙ e) in
+      let told = first-unsat (a .answer) (drop 5 numbers) (sym (number 0) ∙ e) in
       let twice = unsat-twice bytes budget rows places (a .answer) rows′ places′ (a .decided) g rest taken (told .0) (told .1) in
       omega (arith, number 1, number 3, number 4, told .2, told .3, told .4, twice)

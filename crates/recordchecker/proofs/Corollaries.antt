@@ -6,7 +6,7 @@ use Rattle.guard.specs.Guard.{Guard}
 use Rattle.guard.specs.Limits.{base}
 use Rattle.guard.specs.Meaning.{Satisfiable}
 use Rattle.guard.specs.Number.{Parsed.accepted}
-use Rattle.guard.specs.Search.{Visits.closed, searchOf}
+use Rattle.guard.specs.Search.{Visit, Visits.closed, searchOf}
 use Rattle.guard.proofs.Claims.{Accepts, base-supported}
 use Rattle.encoding.proofs.Parsers.{not-accepted}
 use Rattle.refutations.specs.Checker.{checked}
@@ -25,5 +25,5 @@ module _ (bytes written : List ℕ) (r : ℕ) (gives : answer r ≡ checked base
   zero-unsatisfiable z = accepted-unsatisfiable base bytes written base-supported tt [] (sym gives ∙ rw z refl)
 
 -- "Every record that call writes is accepted"
-pub record-zero : (bytes : List ℕ) (g : Guard) → Accepts base bytes g → (n : ℕ) → searchOf g ≡ closed n → (r : ℕ) → answer r ≡ checked base bytes (recordBytes g) → r ≡ 0
+pub record-zero : (bytes : List ℕ) (g : Guard) → Accepts base bytes g → (n : List Visit) → searchOf g ≡ closed n → (r : ℕ) → answer r ≡ checked base bytes (recordBytes g) → r ≡ 0
 record-zero bytes g a n e r gives = zero-only r (gives ∙ record-checked base bytes g a n e)
