@@ -1,3 +1,2 @@
-pub mod WrittenCode
 pub mod Linked
 pub mod Corollaries

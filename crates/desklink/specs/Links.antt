@@ -1,11 +1,9 @@
 -- What a program in another language is given by its calls: the answer as five numbers, and a return code or the length of a record. Assumes nothing:
 -- definitions.
 use mathlib.Core.Path.{_≡_}
-use mathlib.Core.Bool.{cond}
 use mathlib.Core.List.{List, _++_}
-use Prim.Native.Nat.{ℕ, zero, suc, _-_, _^_, _≤_, _<_}
-use lib.Dec.{eqb}
-use lib.IntN.{ℤ, pos, negsuc}
+use Prim.Native.Nat.{ℕ, _-_, _^_, _≤_, _<_}
+use lib.IntN.{ℤ}
 use lib.ListN.{length, drop}
 use Rattle.guard.specs.Limits.{Limits}
 use Rattle.guard.specs.declared.Answer.{Answer}
@@ -13,6 +11,7 @@ use Rattle.answernumbers.specs.Numbers.{answerLength, answerNumbers}
 use Rattle.decide.specs.Decides.{Decides}
 use Rattle.explain.specs.Explains.{Explains}
 use Rattle.filewriter.specs.declared.FileWritten.{FileWritten}
+use Rattle.returncodes.specs.Code.{codeOf}
 
 -- return codes: the call was answered; the answer buffer is too short
 abbrev pub answeredCode : ℕ
@@ -53,11 +52,6 @@ pub record LinksExplained (limits : Limits) (bytes : List ℕ) (budget : ℕ) (r
 
 -- ---- the writer
 
--- −n
-abbrev pub minus : ℕ → ℤ
-minus zero = pos 0
-minus (suc n) = negsuc n
-
 -- what is returned: the number of bytes, or minus the number of the question
 abbrev pub writtenCode : FileWritten → ℤ
-writtenCode w = cond (eqb (w .refused) 0) (pos (w .bytes)) (minus (w .refused))
+writtenCode w = codeOf (w .refused) (w .bytes)

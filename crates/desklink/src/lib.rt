@@ -7,7 +7,8 @@ ghost use Rattle.refutations.specs.Checker.{checked};
 ghost use Rattle.recordchecker.specs.Checks.{answer};
 ghost use Rattle.serialize.specs.NumberList.{listFile};
 ghost use Rattle.filewriter.specs.Writer.{answerTo, leftBy};
-ghost use Rattle.desklink.specs.Links.{Links, LinksExplained, minus, writtenCode};
+ghost use Rattle.desklink.specs.Links.{Links, LinksExplained, writtenCode};
+ghost use Rattle.returncodes.specs.Code.{minus};
 
 // The answer to a guard file within a budget of nodes, as five numbers in `numbers`; the rest as `decide` has it. Returns
 // 0, or 1 if `numbers` is too short for an answer; then nothing is written.
@@ -68,8 +69,5 @@ pub extern "C" fn guarddesk_write(list: &[i64], out: &mut [u8]) -> i64
     ensures { λ r. ⌜ now (out .exit) ≡ leftBy (listFile base (now (list .entry))) (length (now (out .entry))) ⌝ }
 {
     let w = filewriter::write(list, out);
-    if w.refused != 0 {
-        return 0 - w.refused as i64;
-    }
-    w.bytes as i64
+    returncodes::code_of(w.refused, w.bytes)
 }

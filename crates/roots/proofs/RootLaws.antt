@@ -32,8 +32,8 @@ use Rattle.literalfacts.proofs.LiteralLaws.{literals-fit}
 use Rattle.given.specs.Given.{givenBy}
 use Rattle.given.proofs.GivenLaws.{begin-reached, begin-says, givenOf}
 use Rattle.nodes.proofs.NodeLaws.{few-lines, lines-fit}
-use Rattle.search.specs.declared.Outcome.{Outcome}
-use Rattle.search.specs.Outcome.{begin, isOpenOutcome}
+use Rattle.tallies.specs.declared.Outcome.{Outcome}
+use Rattle.tallies.specs.Outcome.{begin, isOpenOutcome}
 use Rattle.search.specs.Nodes.{Accepted, ArraysFit, ArraysOf, Begun, NodeLiterals.atRoot, Searches, StateFit}
 use Rattle.roots.specs.Roots.{ClearedUnlessOpen, Finds}
 use Rattle.search.proofs.Decisions.{fit-add}

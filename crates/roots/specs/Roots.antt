@@ -10,9 +10,9 @@ use Rattle.guard.specs.Search.{search, searchOf}
 use Rattle.reader.specs.declared.Tables.{Tables}
 use Rattle.reader.specs.Reader.{guardTables}
 use Rattle.classes.specs.Held.{state}
-use Rattle.search.specs.declared.Outcome.{Outcome}
-use Rattle.search.specs.declared.Tally.{Tally}
-use Rattle.search.specs.Outcome.{begin, isOpenOutcome, outcome}
+use Rattle.tallies.specs.declared.Outcome.{Outcome}
+use Rattle.tallies.specs.declared.Tally.{Tally}
+use Rattle.tallies.specs.Outcome.{begin, isOpenOutcome, outcome}
 use Rattle.search.specs.Nodes.{Accepted, OpenLeaf}
 
 -- the tables are those of a guard that a reader took

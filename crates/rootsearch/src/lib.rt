@@ -1,13 +1,13 @@
 // The search of a guard from its root: the arrays, the state that it begins with, and what is left of it. `search` says what it gives.
 use problem::Problem;
 use reader::Tables;
-use search::Outcome;
-use search::Tally;
 use search::visit;
+use tallies::Outcome;
+use tallies::Tally;
 ghost use mathlib.Core.Path.{_≡_};
 ghost use Rattle.problem.specs.Columns.{problemBy};
 ghost use Rattle.classes.specs.Held.{Held};
-ghost use Rattle.search.specs.Outcome.{isOpenOutcome};
+ghost use Rattle.tallies.specs.Outcome.{isOpenOutcome};
 ghost use Rattle.roots.specs.Roots.{ClearedUnlessOpen, Finds, GuardsTables};
 
 fn is_open(o: Outcome) -> bool

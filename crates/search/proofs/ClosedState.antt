@@ -38,7 +38,8 @@ use Rattle.reasons.specs.Reasons.{emptyAt}
 use Rattle.reasons.proofs.ReasonLaws.{empty-same}
 use Rattle.nodes.specs.Closed.{closedBy}
 use Rattle.nodes.proofs.NodeLaws.{closed-same}
-use Rattle.search.specs.Nodes.{Accepted, Begun, NodeLiterals, NodeLiterals.atIs, NodeLiterals.atIsnt, NodeLiterals.atRoot, kindBy}
+use Rattle.tallies.specs.Outcome.{kindBy}
+use Rattle.search.specs.Nodes.{Accepted, Begun, NodeLiterals, NodeLiterals.atIs, NodeLiterals.atIsnt, NodeLiterals.atRoot}
 
 -- ---- the literals of a node
 

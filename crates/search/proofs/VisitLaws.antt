@@ -30,12 +30,12 @@ use Rattle.splits.specs.declared.Choice.{Choice}
 use Rattle.splits.specs.Choice.{choiceOf, firstBy, splitBy}
 use Rattle.nodes.specs.Closed.{closedBy}
 use Rattle.nodes.proofs.Closed.{none-empty}
-use Rattle.search.specs.declared.Outcome.{Outcome}
-use Rattle.search.specs.declared.Tally.{Tally}
-use Rattle.search.specs.Outcome.{afterOne, isClosedOutcome, outcome, tallyOf}
-use Rattle.search.specs.Nodes.{Accepted, ArraysOf, Begun, OpenLeaf, Searches, kindBy}
+use Rattle.tallies.specs.declared.Outcome.{Outcome}
+use Rattle.tallies.specs.declared.Tally.{Tally}
+use Rattle.tallies.specs.Outcome.{afterOne, isClosedOutcome, kindBy, outcome, tallyOf}
+use Rattle.search.specs.Nodes.{Accepted, ArraysOf, Begun, OpenLeaf, Searches}
 use Rattle.search.proofs.ClosedState.{agreed, closes, closes-early, is-begun, isnt-begun, kinds-same, literals-in, splits}
-use Rattle.search.proofs.OutcomeLaws.{closed-leaf, first-tells, none-left, open-leaf, second-goes-on}
+use Rattle.tallies.proofs.OutcomeLaws.{closed-leaf, first-tells, none-left, open-leaf, second-goes-on}
 
 -- ---- a choice as code returns it
 

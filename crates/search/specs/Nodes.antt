@@ -1,7 +1,7 @@
 -- The nodes that code visits: the literals of each, the state that it begins with and the one that it leaves open.
 -- Assumes nothing: definitions.
 use mathlib.Core.Path.{_≡_}
-use mathlib.Core.Bool.{Bool, true, false}
+use mathlib.Core.Bool.{false}
 use mathlib.Core.List.{List, _∷_}
 use mathlib.Core.Option.{none}
 use Prim.Native.Nat.{ℕ, _≤_, _<_}
@@ -11,7 +11,7 @@ use Rattle.laws.specs.All.{All}
 use Rattle.guard.specs.Closure.{State, closureOf, given}
 use Rattle.guard.specs.Guard.{Guard, Literal, Literal.is, Literal.isnt}
 use Rattle.guard.specs.Limits.{Limits, Supported, totalVariantLimit, variantLimit}
-use Rattle.guard.specs.Node.{Kind, Kind.first, Kind.second, isClosed, splitOf}
+use Rattle.guard.specs.Node.{isClosed, splitOf}
 use Rattle.guard.specs.Search.{search}
 use Rattle.guard.specs.Terms.{tableOf, termCount}
 use Rattle.guard.specs.WellFormed.{WellFormed}
@@ -24,9 +24,9 @@ use Rattle.arrays.specs.Arrays.{constantsOf, fieldlessOf, fullOf, readsOf, shap
 use Rattle.arrays.specs.Slots.{ReadsFit, ShapesFit, SortsFit}
 use Rattle.labelled.specs.Covers.{Covers, hasMask}
 use Rattle.reasons.specs.Reasons.{LinesFit}
-use Rattle.search.specs.declared.Outcome.{Outcome}
-use Rattle.search.specs.declared.Tally.{Tally}
-use Rattle.search.specs.Outcome.{outcome}
+use Rattle.tallies.specs.declared.Outcome.{Outcome}
+use Rattle.tallies.specs.declared.Tally.{Tally}
+use Rattle.tallies.specs.Outcome.{outcome}
 
 -- a guard that a reader took
 pub record Accepted (g : Guard) : Type 0 where
@@ -84,11 +84,6 @@ pub record ArraysOf (g : Guard) (shapes reads sorts full fieldless constants : L
   pub isTerms : terms ≡ literalTable (g .literals) .terms
   pub isOthers : others ≡ literalTable (g .literals) .others
   pub isMany : many ≡ literalTable (g .literals) .many
-
--- the kind of a split, from whether it is of the first
-abbrev pub kindBy : Bool → Kind
-kindBy true = first
-kindBy false = second
 
 -- From a node that has begun: the outcome is that of the defined search, and an open node's closure is left.
 unfoldable pub Searches : List ℕ → List ℕ → List ℕ → List ℕ → List ℕ → List ℕ → List ℤ → List ℕ → List ℕ → List ℕ → ℕ → Tally → State → Outcome → State → Type 0

@@ -1,77 +1,10 @@
 // The search over decisions, depth first, with a budget of nodes. `specs/` says what it gives.
-ghost use mathlib.Core.Path.{_≡_};
-ghost use Prim.Native.Nat.{_<_, _≤_};
-ghost use Rattle.guard.specs.Search.{Visit.leaf, Visit.split};
+use tallies::Outcome;
+use tallies::Tally;
+ghost use Prim.Native.Nat.{_≤_};
 ghost use Rattle.classes.specs.Held.{Held, state};
-ghost use Rattle.search.specs.Outcome.{afterOne, isClosedOutcome, tallyOf, total};
-ghost use Rattle.search.specs.Nodes.{ArraysFit, Searches, StateFit, kindBy};
-
-// The nodes that are left of a budget, and the splits of either kind that were made.
-pub struct Tally {
-    pub left: u32,
-    pub first: u32,
-    pub second: u32,
-}
-
-// How a search ends.
-pub enum Outcome {
-    Open(Tally),
-    Closed(Tally),
-    Spent(Tally),
-}
-
-fn is_closed(o: Outcome) -> bool
-    ensures { λ r. ⌜ r ≡ isClosedOutcome o ⌝ }
-{
-    match o {
-        Outcome::Open(t) => false,
-        Outcome::Closed(t) => true,
-        Outcome::Spent(t) => false,
-    }
-}
-
-fn tally_of(o: Outcome) -> Tally
-    ensures { λ r. ⌜ r ≡ tallyOf o ⌝ }
-{
-    match o {
-        Outcome::Open(t) => t,
-        Outcome::Closed(t) => t,
-        Outcome::Spent(t) => t,
-    }
-}
-
-// With a node more that is a leaf.
-fn with_leaf(t: Tally) -> Tally
-    requires { ⌜ 0 < t .left ⌝ }
-    ensures { λ r. ⌜ r ≡ afterOne leaf t ⌝ }
-{
-    Tally {
-        left: t.left - 1,
-        first: t.first,
-        second: t.second,
-    }
-}
-
-// With a node more that splits.
-fn with_split(t: Tally, first: bool) -> Tally
-    requires { ⌜ 0 < t .left ⌝ }
-    requires { ⌜ total t ≤ 4294967295 ⌝ }
-    ensures { λ r. ⌜ r ≡ afterOne (split (kindBy first)) t ⌝ }
-{
-    let left = t.left - 1;
-    if first {
-        return Tally {
-            left: left,
-            first: t.first + 1,
-            second: t.second,
-        };
-    }
-    Tally {
-        left: left,
-        first: t.first,
-        second: t.second + 1,
-    }
-}
+ghost use Rattle.tallies.specs.Outcome.{tallyOf, total};
+ghost use Rattle.search.specs.Nodes.{ArraysFit, Searches, StateFit};
 
 // A node from the state that it begins with: its closure, then closed, open, or its children, "is" before "isn't". The
 // arrays come back with the closure of the open node, where one was found.
@@ -129,11 +62,11 @@ pub fn visit(
         others,
         many,
     ) {
-        return Outcome::Closed(with_leaf(tally));
+        return Outcome::Closed(tallies::with_leaf(tally));
     }
     let d = splits::split(classes, labels, reads, sorts, fieldless, labelled, count);
     if !d.found {
-        return Outcome::Open(with_leaf(tally));
+        return Outcome::Open(tallies::with_leaf(tally));
     }
     let bit = labels::only(d.variant as u32);
     let mut own = *classes;
@@ -155,9 +88,9 @@ pub fn visit(
         terms,
         others,
         many,
-        with_split(tally, d.first),
+        tallies::with_split(tally, d.first),
     );
-    if !is_closed(first) {
+    if !tallies::is_closed(first) {
         *classes = own;
         *labels = cut;
         return first;
@@ -179,6 +112,6 @@ pub fn visit(
         terms,
         others,
         many,
-        tally_of(first),
+        tallies::tally_of(first),
     )
 }

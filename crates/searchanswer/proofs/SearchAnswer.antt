@@ -16,10 +16,10 @@ use Rattle.reader.specs.Reader.{guardTables}
 use Rattle.reader.specs.declared.Tables.{Tables}
 use Rattle.search.specs.Nodes.{Accepted, OpenLeaf}
 use Rattle.roots.specs.Roots.{Finds, GuardsTables}
-use Rattle.search.specs.Outcome as found
-use Rattle.search.specs.declared.Outcome.{Outcome}
-use Rattle.search.specs.declared.Tally.{Tally}
-use Rattle.search.proofs.Budgets.{closed-count, cut-counts, open-count, spent-count, within-counts}
+use Rattle.tallies.specs.Outcome as found
+use Rattle.tallies.specs.declared.Outcome.{Outcome}
+use Rattle.tallies.specs.declared.Tally.{Tally}
+use Rattle.tallies.proofs.Budgets.{closed-count, cut-counts, open-count, spent-count, within-counts}
 use Rattle.messages.specs.Messages.{OpenTables}
 use Rattle.openanswer.specs.Open.{AnswersOpen}
 use Rattle.searchanswer.specs.Searched.{AnswersTables}

@@ -3,7 +3,7 @@ use cleared::clear_both;
 use guard::Answer;
 use openanswer::answer_open;
 use reader::Tables;
-use search::Outcome;
+use tallies::Outcome;
 ghost use Prim.Native.Nat.{_≤_};
 ghost use lib.ListN.{length};
 ghost use Rattle.roots.specs.Roots.{GuardsTables};

@@ -14,18 +14,17 @@ use Rattle.passes.proofs.PassLaws.{steps-keep}
 use Rattle.saturation.proofs.saturate.Reads as saturate-reads
 use Rattle.splits.specs.Choice.{firstBy, splitBy}
 use Rattle.splits.proofs.split.Reads as split-reads
-use Rattle.search.specs.Nodes.{kindBy}
-use Rattle.search.specs.Outcome.{total}
+use Rattle.tallies.specs.Outcome.{kindBy, total}
 use Rattle.search.proofs.Decisions.{bit-most, decision, fit-add, fit-steps, is-child, is-decided, is-falls, isnt-child, isnt-falls, same-kind, term-small, variant-small}
 use Rattle.search.proofs.Measure.{labelSum}
-use Rattle.search.proofs.OutcomeLaws.{leaf-less, split-less}
+use Rattle.tallies.proofs.OutcomeLaws.{leaf-less, split-less}
 use Rattle.search.proofs.VisitLaws.{closed-node, first-ends, no-choice, nothing-left, open-node, second-ends}
 use Rattle.search.proofs.visit.Kinds as visit-kinds
 use Rattle.search.proofs.visit.Reads as visit
-use Rattle.search.proofs.is_closed.Reads as is-closed-reads′
-use Rattle.search.proofs.tally_of.Reads as tally-of-reads
-use Rattle.search.proofs.with_leaf.Reads as with-leaf-reads
-use Rattle.search.proofs.with_split.Reads as with-split-reads
+use Rattle.tallies.proofs.is_closed.Reads as is-closed-reads′
+use Rattle.tallies.proofs.tally_of.Reads as tally-of-reads
+use Rattle.tallies.proofs.with_leaf.Reads as with-leaf-reads
+use Rattle.tallies.proofs.with_split.Reads as with-split-reads
 use Rattle.search.proofs.+visit.Lts-visit as visit-lts
 use Rattle.search.proofs.+visit.{statement}
 use Rattle.search.proofs.+visit.Tie.{close}

@@ -13,9 +13,9 @@ use Rattle.laws.proofs.Bools.{by-test}
 use Rattle.guard.specs.Node.{Kind, Kind.first, Kind.second}
 use Rattle.guard.specs.Search.{Visit, Visit.leaf, Visit.split, Visits, Visits.closed, Visits.opened, children, isSplit, plus, splitsIn, visited, visits}
 use Rattle.guard.proofs.SearchLaws.{plus-visited, splits-append}
-use Rattle.search.specs.declared.Outcome.{Outcome}
-use Rattle.search.specs.declared.Tally.{Tally}
-use Rattle.search.specs.Outcome.{after, afterOne, ended, isClosedOutcome, outcome, tallyOf, total}
+use Rattle.tallies.specs.declared.Outcome.{Outcome}
+use Rattle.tallies.specs.declared.Tally.{Tally}
+use Rattle.tallies.specs.Outcome.{after, afterOne, ended, isClosedOutcome, outcome, tallyOf, total}
 
 -- a tally from its numbers
 same-tally : (t : Tally) (l f s : ℕ) → l ≡ t .left → f ≡ t .first → s ≡ t .second → record { left = l; first = f; second = s } ≡ t

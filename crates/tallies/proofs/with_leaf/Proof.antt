@@ -3,9 +3,9 @@ use mathlib.Core.Path.{_≡_, ap₂}
 use Prim.Native.Nat.{ℕ, _+_, _-_}
 use native.Mathlib.Omega.{arith}
 use borrow.Author.Needs.{needs}
-use Rattle.search.specs.declared.Tally.{Tally}
-use Rattle.search.proofs.with_leaf.Statement.{statement}
-use Rattle.search.proofs.with_leaf.Tie as tie
+use Rattle.tallies.specs.declared.Tally.{Tally}
+use Rattle.tallies.proofs.with_leaf.Statement.{statement}
+use Rattle.tallies.proofs.with_leaf.Tie as tie
 
 returns : tie.Need-returns
 returns c =

@@ -5,11 +5,10 @@ use Prim.Native.Nat.{ℕ, _+_, _-_}
 use native.Mathlib.Omega.{arith}
 use borrow.Author.Needs.{needs}
 use Rattle.guard.specs.Search.{Visit.split}
-use Rattle.search.specs.Nodes.{kindBy}
-use Rattle.search.specs.Outcome.{afterOne}
-use Rattle.search.specs.declared.Tally.{Tally}
-use Rattle.search.proofs.with_split.Statement.{statement}
-use Rattle.search.proofs.with_split.Tie as tie
+use Rattle.tallies.specs.Outcome.{afterOne, kindBy}
+use Rattle.tallies.specs.declared.Tally.{Tally}
+use Rattle.tallies.proofs.with_split.Statement.{statement}
+use Rattle.tallies.proofs.with_split.Tie as tie
 
 -- a split of either kind, as the code counts it
 one : (t : Tally) (b : Bool) → b ≡ true → record { left = t .left - 1; first = t .first + 1; second = t .second } ≡ afterOne (split (kindBy b)) t

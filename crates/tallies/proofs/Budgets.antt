@@ -10,10 +10,10 @@ use lib.Seq.{length-take-le, take-all}
 use Rattle.guard.specs.Guard.{Guard}
 use Rattle.guard.specs.Node.{Kind.first, Kind.second}
 use Rattle.guard.specs.Search.{Counts, Visit, Visits, Visits.closed, Visits.opened, countsOf, nodeCount, searchOf, splitsIn, visited, visits}
-use Rattle.search.specs.declared.Outcome.{Outcome}
-use Rattle.search.specs.declared.Tally.{Tally}
-use Rattle.search.specs.Outcome.{after, begin, outcome}
-use Rattle.search.proofs.OutcomeLaws.{either, enough-left, too-few-left}
+use Rattle.tallies.specs.declared.Outcome.{Outcome}
+use Rattle.tallies.specs.declared.Tally.{Tally}
+use Rattle.tallies.specs.Outcome.{after, begin, outcome}
+use Rattle.tallies.proofs.OutcomeLaws.{either, enough-left, too-few-left}
 
 -- how a search ended, and what it has left and has made, where all its visits were within the budget
 pub record Within (budget : ℕ) (xs : List Visit) (t : Tally) : Type 0 where

@@ -4,14 +4,19 @@ use mathlib.Core.List.{List}
 use Prim.Native.Nat.{ℕ, _+_, _-_, _≤_}
 use lib.Dec.{leb}
 use lib.ListN.{length, take}
-use Rattle.guard.specs.Node.{Kind.first, Kind.second}
+use Rattle.guard.specs.Node.{Kind, Kind.first, Kind.second}
 use Rattle.guard.specs.Search.{Visit, Visits, Visits.closed, Visits.opened, isSplit, splitsIn, visited, visits}
-use Rattle.search.specs.declared.Outcome.{Outcome}
-use Rattle.search.specs.declared.Tally.{Tally}
+use Rattle.tallies.specs.declared.Outcome.{Outcome}
+use Rattle.tallies.specs.declared.Tally.{Tally}
 
 -- a budget, before the first node
 abbrev pub begin : ℕ → Tally
 begin budget = record { left = budget; first = 0; second = 0 }
+
+-- the kind of a split, from whether it is of the first
+abbrev pub kindBy : Bool → Kind
+kindBy true = first
+kindBy false = second
 
 -- the nodes left, and the splits made, after a visit; there is a node left for it
 abbrev pub afterOne : Visit → Tally → Tally
