@@ -208,7 +208,7 @@ module _ (ts : Types) (names : length ts ≤ 6) (variants : (t : ℕ) → length
 
 -- ---- question 8
 
-defaults-length : (k : ℕ) (ts : Types) → length (defaultRounds k ts) ≡ length ts
+pub defaults-length : (k : ℕ) (ts : Types) → length (defaultRounds k ts) ≡ length ts
 defaults-length zero ts = map-from-length (λ t. firstDefault t (variantsOf ts t)) (length ts) 0
 defaults-length (suc k) ts = map-from-length (λ t. nextDefault (defaultRounds k ts) t (variantsOf ts t) (getD (defaultRounds k ts) t none)) (length ts) 0
 

@@ -1,4 +1,6 @@
 pub mod Copying
 pub mod CopiedFile
+pub mod Taking
+pub mod TakenFile
 pub mod Theorems
 pub mod Questions

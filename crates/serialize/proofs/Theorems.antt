@@ -1,10 +1,12 @@
--- Request #102: a list that is taken is read back from its bytes, and a file that is taken has the bytes of its list. Assumes nothing.
+-- Request #102: a list that is taken is read back from its bytes, and a file that is taken has the bytes of its list. And every
+-- well-formed guard has a file, for whatever writes guards. Assumes nothing.
 use mathlib.Core.Path.{_≡_, refl, ap, sym, subst, _∙_}
 use mathlib.Core.List.{List, [], _∷_, _++_, append-nil, map}
 use Prim.Native.Nat.{ℕ, _≤_, _<_}
 use native.Mathlib.Omega.{arith}
 use lib.Dec.{leb}
 use lib.IntN.{ℤ, pos, negsuc}
+use lib.ListN.{length}
 use borrow.Author.Tests.{le-leb, leb-true}
 use Rattle.laws.specs.All.{All, All.more, All.none}
 use Rattle.laws.specs.Lists.{concatMap}
@@ -12,8 +14,10 @@ use Rattle.laws.proofs.Lists.{all-right}
 use Rattle.guard.specs.File.{bytes, file}
 use Rattle.guard.specs.Grammar.{fileOf}
 use Rattle.guard.specs.Guard.{Guard}
-use Rattle.guard.specs.Limits.{Limits, Supported}
+use Rattle.guard.specs.Limits.{Limits, Supported, totalVariantLimit}
 use Rattle.guard.specs.Number.{Parsed.accepted, foldSigned, return, unfoldSigned, unsignedOf, valueWidth, width32}
+use Rattle.guard.specs.Types.{Variant}
+use Rattle.guard.specs.WellFormed.{WellFormed}
 use Rattle.guard.proofs.Accepted.{source-ended}
 use Rattle.guard.proofs.Reading.{Ends, Reads, fold-unfold, reads-unsigned-of, unfold-fold}
 use Rattle.encoding.specs.Encoding.{encoded, encodedValue}
@@ -24,6 +28,8 @@ use Rattle.serialize.specs.NumberList.{fits, listFile, numberList, unsig
 use Rattle.serialize.specs.Tokens.{Fits, Token, bytesOf, guardTokens, listed, numbersOf, tokenBytes}
 use Rattle.serialize.proofs.Copying.{Copies, Form}
 use Rattle.serialize.proofs.CopiedFile.{copies-file}
+use Rattle.serialize.proofs.Taking.{TakesBefore}
+use Rattle.serialize.proofs.TakenFile.{takes-file}
 
 -- ---- bytes
 
@@ -131,3 +137,8 @@ module _ (limits : Limits) (sup : Supported limits) where
         ap (λ (l : List Token). fileOf numberList limits (map foldSigned (map listed l))) (sym is) ∙ ap (fileOf numberList limits) (sym (one-each ks) ∙ sym (append-nil (concatMap one-number ks))) ∙ back [] refl,
         ap (concatMap tokenBytes) (sym is) ∙ sym (append-nil (concatMap tokenBytes ks)) ∙ ap (λ (l : List ℕ). concatMap tokenBytes ks ++ l) (sym nothing) ∙ sym same,
       )
+
+  -- the bytes of a well-formed guard are a file of it
+  pub well-formed-file : (g : Guard) → WellFormed limits g → length (concatMap (λ (vs : List Variant). vs) (g .types)) ≤ totalVariantLimit → file limits (bytesOf g) ≡ accepted g []
+  unfolding file bytesOf TakesBefore as-bytes
+  well-formed-file g w total = ap (fileOf bytes limits) (sym (append-nil (concatMap tokenBytes (guardTokens g)))) ∙ takes-file as-bytes limits sup g w total [] refl
