@@ -2,7 +2,7 @@
 -- Quoted sentences are document 02's, of request #107.
 use mathlib.Core.Bool.{Bool, true, false, cond, _&&_}
 use mathlib.Core.List.{List, [], _∷_, _++_, map}
-use Prim.Native.Nat.{ℕ, suc, _+_}
+use Prim.Native.Nat.{ℕ, zero, suc}
 use lib.Dec.{eqb, leb}
 use lib.ListN.{length, getD}
 use Rattle.laws.specs.Lists.{concatMap}
@@ -46,6 +46,13 @@ writtenOf (x ∷ vs) (variable t ∷ rs) = writtenOf vs rs
 writtenOf (x ∷ vs) (constant t z ∷ rs) = constant t z ∷ writtenOf (x ∷ vs) rs
 writtenOf (x ∷ vs) (built t v ps ∷ rs) = built t v ps ∷ writtenOf (x ∷ vs) rs
 writtenOf (x ∷ vs) (field t a v p ∷ rs) = field t a v p ∷ writtenOf (x ∷ vs) rs
+
+-- the rows at whose place the other list has 0: how code tells which are written
+abbrev pub keptRows : List ℕ → List Row → List Row
+keptRows [] rs = rs
+keptRows (s ∷ ss) [] = []
+keptRows (zero ∷ ss) (r ∷ rs) = r ∷ keptRows ss rs
+keptRows (suc s ∷ ss) (r ∷ rs) = keptRows ss rs
 
 -- whether no "two variables taken as one differ in type", where the first's rows are `firsts`
 abbrev pub typesAgree : Types → List Row → List ℕ → List Row → Bool
@@ -113,13 +120,14 @@ typePart ts = concatMap tokenBytes (plain (length ts) ∷ concatMap typeTokens t
 unfoldable pub hasRoom : Limits → Guard → Bool
 hasRoom limits g = leb (length (g .rows)) (limits .terms) && leb (length (g .literals)) (limits .lines)
 
--- "15, asked first after both files are accepted, when the type parts differ in any byte; 16, asked next, when two variables
--- taken as one differ in type"; "Asked after 16, too many rows or lines is 4"
+-- of two guards with the same types: "16, asked next, when two variables taken as one differ in type"; "Asked after 16, too many rows
+-- or lines is 4"
+unfoldable pub askedOfSame : Limits → Guard → Guard → Parsed Guard
+askedOfSame limits g h = cond (sameVariables g h) (cond (hasRoom limits (merged g h)) (accepted (merged g h) []) (refused 4)) (refused 16)
+
+-- "15, asked first after both files are accepted, when the type parts differ in any byte"
 unfoldable pub asked : Limits → Guard → Guard → Parsed Guard
-asked limits g h =
-    cond (sameBytes (typePart (g .types)) (typePart (h .types)))
-    (cond (sameVariables g h) (cond (hasRoom limits (merged g h)) (accepted (merged g h) []) (refused 4)) (refused 16))
-    (refused 15)
+asked limits g h = cond (sameBytes (typePart (g .types)) (typePart (h .types))) (askedOfSame limits g h) (refused 15)
 
 -- "The first file is asked before the second."
 abbrev pub mergedBy : Limits → Parsed Guard → Parsed Guard → Parsed Guard

@@ -11,7 +11,7 @@ use Rattle.guard.specs.Limits.{base}
 use Rattle.guard.specs.Number.{Parsed, Parsed.accepted, Parsed.refused}
 use Rattle.encoding.specs.Encoding.{encoded, encodedValue}
 use Rattle.serialize.specs.Tokens.{bytesOf, guardTokens}
-use Rattle.merged.specs.Merge.{asked, hasRoom, merged, mergedFile, names, sameVariables, typePart, written}
+use Rattle.merged.specs.Merge.{asked, askedOfSame, hasRoom, merged, mergedFile, names, sameVariables, typePart, written}
 
 -- two files, the question that gets a no or 0, and the bytes of the one that is written
 pub record Case : Type 0 where
@@ -73,9 +73,9 @@ cases =
     ∷ []
 
 pub questions-right : map (λ c. questionOf (mergedFile base (c .first) (c .second))) cases ≡ map (λ c. c .question) cases
-unfolding file mergedFile asked merged names written sameVariables typePart hasRoom encoded encodedValue
+unfolding file mergedFile asked askedOfSame merged names written sameVariables typePart hasRoom encoded encodedValue
 questions-right = refl
 
 pub bytes-right : map (λ c. bytesFor (mergedFile base (c .first) (c .second))) cases ≡ map (λ c. c .bytes) cases
-unfolding file mergedFile asked merged names written sameVariables typePart hasRoom guardTokens bytesOf encoded encodedValue
+unfolding file mergedFile asked askedOfSame merged names written sameVariables typePart hasRoom guardTokens bytesOf encoded encodedValue
 bytes-right = refl
