@@ -1,2 +1,3 @@
 pub mod FileParts
 pub mod ReaderLaws
+pub mod TablesRead

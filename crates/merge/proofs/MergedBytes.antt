@@ -1,0 +1,88 @@
+-- The bytes of a merged guard are those of the parts that are put one behind the other. Assumes nothing.
+use mathlib.Core.Path.{_≡_, refl, ap, ap₂, sym, _∙_}
+use mathlib.Core.List.{List, [], _∷_, _++_, append-assoc, append-nil, map}
+use Prim.Native.Nat.{ℕ, _+_, _≤_, _<_}
+use native.Mathlib.Omega.{arith}
+use lib.ListN.{length, length-append, length-map, replicate}
+use Rattle.laws.specs.Lists.{concatMap, from}
+use Rattle.laws.proofs.Lists.{map-cong}
+use Rattle.guard.specs.Guard.{Guard, Literal, Row}
+use Rattle.tables.specs.Layout.{pad}
+use Rattle.tables.proofs.Columns.{pad-get}
+use Rattle.reader.specs.declared.Tables.{Tables}
+use Rattle.encoding.specs.Encoding.{encoded}
+use Rattle.encoding.proofs.ReadBack.{one-byte}
+use Rattle.serialize.specs.Tokens.{Token, Token.plain, bytesOf, guardTokens, literalTokens, rowTokens, tokenBytes}
+use Rattle.serialize.proofs.Copying.{concatMap-append}
+use Rattle.merged.specs.Merge.{keptRows, merged, named, names, namesFrom, renamedLiteral, renamedRow, typePart, variables, written}
+use Rattle.merged.proofs.Renaming.{keep-all, own-literals, own-rows, same-literal, same-row}
+use Rattle.renaming.specs.declared.Names.{Names}
+use Rattle.renaming.specs.Names.{AreNames}
+use Rattle.merge.specs.Merging.{BothOf, TablesOf, allLiterals, allRows}
+use Rattle.merge.proofs.Held.{literals-held, rows-held}
+
+-- ---- parts of a guard
+
+abbrev pub rowsBytes : List Row → List ℕ
+rowsBytes rs = concatMap tokenBytes (concatMap rowTokens rs)
+
+abbrev pub literalsBytes : List Literal → List ℕ
+literalsBytes ls = concatMap tokenBytes (concatMap literalTokens ls)
+
+-- the types, then the rows, then the literals
+pub in-parts : (g : Guard) → bytesOf g ≡ typePart (g .types) ++ (allRows g ++ allLiterals g)
+unfolding bytesOf guardTokens typePart
+in-parts g = concatMap-append tokenBytes _ _ ∙ ap (λ (l : List ℕ). typePart (g .types) ++ l) (concatMap-append tokenBytes _ _)
+
+pub rows-both : (rs ss : List Row) → rowsBytes (rs ++ ss) ≡ rowsBytes rs ++ rowsBytes ss
+rows-both rs ss = ap (concatMap tokenBytes) (concatMap-append rowTokens rs ss) ∙ concatMap-append tokenBytes (concatMap rowTokens rs) (concatMap rowTokens ss)
+
+pub literals-both : (ls ms : List Literal) → literalsBytes (ls ++ ms) ≡ literalsBytes ls ++ literalsBytes ms
+literals-both ls ms = ap (concatMap tokenBytes) (concatMap-append literalTokens ls ms) ∙ concatMap-append tokenBytes (concatMap literalTokens ls) (concatMap literalTokens ms)
+
+-- ---- parts of two guards
+
+module _ {first second : Tables} {g h : Guard} (b : BothOf first second g h) where
+  -- the first's rows under their own numbers, none of them skipped
+  pub own-bytes : rowsBytes (map (renamedRow (from 24 0)) (keptRows (replicate 24 0) (g .rows))) ≡ rowsBytes (g .rows)
+  own-bytes =
+      let held = rows-held (b .one) in
+      ap rowsBytes (ap (map (renamedRow (from 24 0))) (keep-all 24 (g .rows)) ∙ own-rows 24 (g .types) (g .rows) (held .many) (held .fit))
+
+  pub own-lines : literalsBytes (map (renamedLiteral (from 24 0)) (g .literals)) ≡ literalsBytes (g .literals)
+  own-lines = ap literalsBytes (own-literals 24 (g .types) (g .rows) (rows-held (b .one) .many) (g .literals) (literals-held (b .one) .fit))
+
+  module _ {n : Names} (are : AreNames (g .types) (g .rows) (h .rows) n) where
+    -- the names in the array are the definition's
+    agree : (i : ℕ) → named (n .names) i ≡ named (names g h) i
+    unfolding names
+    agree i = ap (λ (xs : List ℕ). named xs i) (are .names) ∙ pad-get 0 24 i (namesFrom (variables (g .rows)) (length (g .rows)) (h .rows))
+
+    pub added : List Row
+    added = map (renamedRow (n .names)) (keptRows (n .skipped) (h .rows))
+
+    added-is : added ≡ map (renamedRow (names g h)) (written g h)
+    unfolding written
+    added-is = map-cong (renamedRow (n .names)) (renamedRow (names g h)) (keptRows (n .skipped) (h .rows)) (λ r m. same-row (n .names) (names g h) agree r) ∙ ap (map (renamedRow (names g h))) (are .kept)
+
+    pub row-count : n .rows ≡ length (merged g h .rows)
+    unfolding merged written
+    row-count = are .rows ∙ sym (length-append (g .rows) (map (renamedRow (names g h)) (written g h)) ∙ ap (λ (k : ℕ). length (g .rows) + k) (length-map (renamedRow (names g h)) (written g h)))
+
+    pub all-rows : n .rows ≤ 24 → (n .rows ∷ []) ++ (rowsBytes (g .rows) ++ rowsBytes added) ≡ allRows (merged g h)
+    unfolding merged
+    all-rows few =
+        ap₂ (λ (x y : List ℕ). x ++ y) (sym (one-byte (n .rows) (omega (arith, few))) ∙ ap encoded row-count)
+        (sym (rows-both (g .rows) added) ∙ ap (λ (rs : List Row). rowsBytes (g .rows ++ rs)) added-is)
+
+    pub added-lines : List Literal
+    added-lines = map (renamedLiteral (n .names)) (h .literals)
+
+    pub all-literals : (k : ℕ) → k ≡ length (g .literals) + length (h .literals) → k ≤ 32
+        → (k ∷ []) ++ (literalsBytes (g .literals) ++ literalsBytes added-lines) ≡ allLiterals (merged g h)
+    unfolding merged
+    all-literals k e few =
+        ap₂ (λ (x y : List ℕ). x ++ y)
+        (sym (one-byte k (omega (arith, few))) ∙ ap encoded (e ∙ sym (length-append (g .literals) (map (renamedLiteral (names g h)) (h .literals)) ∙ ap (λ (i : ℕ). length (g .literals) + i) (length-map (renamedLiteral (names g h)) (h .literals)))))
+        (sym (literals-both (g .literals) added-lines)
+        ∙ ap (λ (ls : List Literal). literalsBytes (g .literals ++ ls)) (map-cong (renamedLiteral (n .names)) (renamedLiteral (names g h)) (h .literals) (λ l m. same-literal (n .names) (names g h) agree l)))
