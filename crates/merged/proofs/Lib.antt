@@ -1,2 +1,4 @@
 pub mod Naming
 pub mod Renumbered
+pub mod MergedRows
+pub mod MergedFits

@@ -1,0 +1,79 @@
+-- The rows of two guards as one: both guards' rows stand among them, the first's under their own numbers and the second's under
+-- their names, and each is a row of one of the two. So they fit, and the first's literals are said to be renumbered too.
+-- Assumes nothing.
+use mathlib.Core.Path.{_≡_, refl, ap, sym, subst, _∙_}
+use mathlib.Core.Bool.{true}
+use mathlib.Core.List.{List, _++_, map, map-id}
+use mathlib.Core.Logic.{_⊎_, inl, inr}
+use Prim.Native.Nat.{ℕ, _+_, _<_}
+use native.Mathlib.Omega.{arith}
+use lib.Dec.{ltb}
+use lib.ListN.{length, length-append, List·getD-append, List·getD-map}
+use lib.Seq.{getD-append-add}
+use borrow.Author.Tests.{ltb-false, ltb-true}
+use Rattle.laws.specs.Lists.{from}
+use Rattle.laws.proofs.Bools.{by-test, either}
+use Rattle.laws.proofs.Lists.{map-cong, map-length}
+use Rattle.guard.specs.Guard.{Guard, Row, noRow, rowAt}
+use Rattle.guard.specs.Limits.{Limits}
+use Rattle.guard.specs.Types.{Types}
+use Rattle.guard.specs.WellFormed.{WellFormed}
+use Rattle.guard.proofs.Accepted.{RowsFit}
+use Rattle.merged.specs.Merge.{merged, names, renamedLiteral, renamedRow, sameVariables, written}
+use Rattle.merged.proofs.Naming.{Names, Naming, naming, stands, variable-row, written-named}
+use Rattle.merged.proofs.Renumbered.{Among, own-literal, own-named, own-row, row-fits}
+
+-- the second guard over the first's types, which are its own
+abbrev pub second : Guard → Guard → Guard
+second g h = record { types = g .types; rows = h .rows; literals = h .literals }
+
+pub second-is : (g h : Guard) → g .types ≡ h .types → second g h ≡ h
+second-is g h e = ap (λ (ts : Types). let k : Guard = record { types = ts; rows = h .rows; literals = h .literals } in k) e
+
+module _ (g h : Guard) where
+  -- the numbers of the first's rows
+  abbrev pub own : List ℕ
+  own = from (length (g .rows)) 0
+
+  all-rows : length (merged g h .rows) ≡ length (g .rows) + length (written g h)
+  unfolding merged
+  all-rows = length-append (g .rows) (map (renamedRow (names g h)) (written g h)) ∙ ap (λ (n : ℕ). length (g .rows) + n) (map-length (renamedRow (names g h)) (written g h))
+
+  first-row : (i : ℕ) → i < length (g .rows) → rowAt (merged g h .rows) i ≡ rowAt (g .rows) i
+  unfolding merged
+  first-row i l = List·getD-append (g .rows) (map (renamedRow (names g h)) (written g h)) noRow i l
+
+  written-row : (k : ℕ) → rowAt (merged g h .rows) (length (g .rows) + k) ≡ renamedRow (names g h) (rowAt (written g h) k)
+  unfolding merged
+  written-row k = getD-append-add (g .rows) (map (renamedRow (names g h)) (written g h)) k noRow ∙ List·getD-map (renamedRow (names g h)) (written g h) k noRow
+
+  module _ (limits : Limits) (wg : WellFormed limits g) where
+    pub first-among : Among (merged g h .rows) own (g .rows)
+    first-among i l =
+        subst (λ (q : ℕ). (q < length (merged g h .rows)) × (rowAt (merged g h .rows) q ≡ renamedRow own (rowAt (g .rows) i))) (sym (own-named (length (g .rows)) i l))
+        (omega (arith, all-rows), first-row i l ∙ sym (own-row (g .types) (g .rows) (length (g .rows)) i (rowAt (g .rows) i) (omega arith) (wg .rows i l)))
+
+    pub own-literals : map (renamedLiteral own) (g .literals) ≡ g .literals
+    own-literals = map-cong (renamedLiteral own) (λ l. l) (g .literals) (λ l m. own-literal (g .types) (g .rows) l (wg .literals l m)) ∙ map-id (g .literals)
+
+  module _ (agree : sameVariables g h ≡ true) where
+    named-rows : Naming (g .rows) (length (g .rows)) (h .rows) (names g h) (written g h)
+    unfolding names written sameVariables
+    named-rows = naming (g .rows) (g .types) (length (g .rows)) (h .rows) agree
+
+    pub second-among : Among (merged g h .rows) (names g h) (h .rows)
+    second-among =
+        stands (g .rows) (λ q r. (q < length (merged g h .rows)) × (rowAt (merged g h .rows) q ≡ renamedRow (names g h) r))
+        (λ x t e. let l : x < length (g .rows) = variable-row (g .rows) x t e in (omega (arith, all-rows), first-row x l ∙ e)) named-rows
+        (λ k l. (omega (arith, all-rows), written-row k))
+
+    pub row-of : (q : ℕ) → q < length (merged g h .rows) → Names own (g .rows) q ⊎ Names (names g h) (h .rows) q
+    row-of q l =
+        by-test (ltb q (length (g .rows)))
+        (λ b. let i : q < length (g .rows) = ltb-true q _ b in inl (record { row = q; inside = i; name = own-named _ q i; higher = λ j d. omega (arith, own-named (length (g .rows)) j (omega arith)) }))
+        (λ b. inr (written-named (g .rows) named-rows (omega arith) q (ltb-false q _ b) (omega (arith, all-rows))))
+
+    pub merged-rows-fit : (limits : Limits) → WellFormed limits g → WellFormed limits (second g h) → RowsFit (g .types) (merged g h .rows)
+    merged-rows-fit limits wg wh q l =
+        either (row-fits (g .types) (merged g h .rows) own (g .rows) (first-among limits wg) (wg .rows) q)
+        (row-fits (g .types) (merged g h .rows) (names g h) (h .rows) second-among (wh .rows) q) (row-of q l)
