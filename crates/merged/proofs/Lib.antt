@@ -2,3 +2,4 @@ pub mod Naming
 pub mod Renumbered
 pub mod MergedRows
 pub mod MergedFits
+pub mod RowValues

@@ -24,7 +24,7 @@ module _ (limits : Limits) (g h : Guard) where
   all-fit : WellFormed limits g → WellFormed limits (second g h) → sameVariables g h ≡ true → (l : Literal) → List·Memᴰ l (merged g h .literals) → LiteralFits (g .types) (merged g h .rows) l
   unfolding merged
   all-fit wg wh agree l m =
-      either (λ n. literals-fit (own g h) g wg (first-among g h limits wg) l (subst (List·Memᴰ l) (sym (own-literals g h limits wg)) n))
+      either (λ n. literals-fit (own g) g wg (first-among g h limits wg) l (subst (List·Memᴰ l) (sym (own-literals limits g wg)) n))
       (literals-fit (names g h) (second g h) wh (second-among g h agree) l) (List·Memᴰ·append-cases (g .literals) m)
 
   pub merged-well-formed : WellFormed limits g → WellFormed limits h → g .types ≡ h .types → sameVariables g h ≡ true → hasRoom limits (merged g h) ≡ true → WellFormed limits (merged g h)

@@ -30,11 +30,14 @@ second g h = record { types = g .types; rows = h .rows; literals = h .literals }
 pub second-is : (g h : Guard) → g .types ≡ h .types → second g h ≡ h
 second-is g h e = ap (λ (ts : Types). let k : Guard = record { types = ts; rows = h .rows; literals = h .literals } in k) e
 
-module _ (g h : Guard) where
-  -- the numbers of the first's rows
-  abbrev pub own : List ℕ
-  own = from (length (g .rows)) 0
+-- the numbers of a guard's rows
+abbrev pub own : Guard → List ℕ
+own g = from (length (g .rows)) 0
 
+pub own-literals : (limits : Limits) (g : Guard) → WellFormed limits g → map (renamedLiteral (own g)) (g .literals) ≡ g .literals
+own-literals limits g wg = map-cong (renamedLiteral (own g)) (λ l. l) (g .literals) (λ l m. own-literal (g .types) (g .rows) l (wg .literals l m)) ∙ map-id (g .literals)
+
+module _ (g h : Guard) where
   all-rows : length (merged g h .rows) ≡ length (g .rows) + length (written g h)
   unfolding merged
   all-rows = length-append (g .rows) (map (renamedRow (names g h)) (written g h)) ∙ ap (λ (n : ℕ). length (g .rows) + n) (map-length (renamedRow (names g h)) (written g h))
@@ -47,14 +50,10 @@ module _ (g h : Guard) where
   unfolding merged
   written-row k = getD-append-add (g .rows) (map (renamedRow (names g h)) (written g h)) k noRow ∙ List·getD-map (renamedRow (names g h)) (written g h) k noRow
 
-  module _ (limits : Limits) (wg : WellFormed limits g) where
-    pub first-among : Among (merged g h .rows) own (g .rows)
-    first-among i l =
-        subst (λ (q : ℕ). (q < length (merged g h .rows)) × (rowAt (merged g h .rows) q ≡ renamedRow own (rowAt (g .rows) i))) (sym (own-named (length (g .rows)) i l))
-        (omega (arith, all-rows), first-row i l ∙ sym (own-row (g .types) (g .rows) (length (g .rows)) i (rowAt (g .rows) i) (omega arith) (wg .rows i l)))
-
-    pub own-literals : map (renamedLiteral own) (g .literals) ≡ g .literals
-    own-literals = map-cong (renamedLiteral own) (λ l. l) (g .literals) (λ l m. own-literal (g .types) (g .rows) l (wg .literals l m)) ∙ map-id (g .literals)
+  pub first-among : (limits : Limits) → WellFormed limits g → Among (merged g h .rows) (own g) (g .rows)
+  first-among limits wg i l =
+      subst (λ (q : ℕ). (q < length (merged g h .rows)) × (rowAt (merged g h .rows) q ≡ renamedRow (own g) (rowAt (g .rows) i))) (sym (own-named (length (g .rows)) i l))
+      (omega (arith, all-rows), first-row i l ∙ sym (own-row (g .types) (g .rows) (length (g .rows)) i (rowAt (g .rows) i) (omega arith) (wg .rows i l)))
 
   module _ (agree : sameVariables g h ≡ true) where
     named-rows : Naming (g .rows) (length (g .rows)) (h .rows) (names g h) (written g h)
@@ -67,7 +66,7 @@ module _ (g h : Guard) where
         (λ x t e. let l : x < length (g .rows) = variable-row (g .rows) x t e in (omega (arith, all-rows), first-row x l ∙ e)) named-rows
         (λ k l. (omega (arith, all-rows), written-row k))
 
-    pub row-of : (q : ℕ) → q < length (merged g h .rows) → Names own (g .rows) q ⊎ Names (names g h) (h .rows) q
+    pub row-of : (q : ℕ) → q < length (merged g h .rows) → Names (own g) (g .rows) q ⊎ Names (names g h) (h .rows) q
     row-of q l =
         by-test (ltb q (length (g .rows)))
         (λ b. let i : q < length (g .rows) = ltb-true q _ b in inl (record { row = q; inside = i; name = own-named _ q i; higher = λ j d. omega (arith, own-named (length (g .rows)) j (omega arith)) }))
@@ -75,5 +74,5 @@ module _ (g h : Guard) where
 
     pub merged-rows-fit : (limits : Limits) → WellFormed limits g → WellFormed limits (second g h) → RowsFit (g .types) (merged g h .rows)
     merged-rows-fit limits wg wh q l =
-        either (row-fits (g .types) (merged g h .rows) own (g .rows) (first-among limits wg) (wg .rows) q)
+        either (row-fits (g .types) (merged g h .rows) (own g) (g .rows) (first-among limits wg) (wg .rows) q)
         (row-fits (g .types) (merged g h .rows) (names g h) (h .rows) second-among (wh .rows) q) (row-of q l)
