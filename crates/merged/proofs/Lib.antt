@@ -3,3 +3,5 @@ pub mod Renumbered
 pub mod MergedRows
 pub mod MergedFits
 pub mod RowValues
+pub mod PartHolds
+pub mod Satisfied
