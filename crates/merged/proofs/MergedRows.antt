@@ -1,9 +1,8 @@
 -- The rows of two guards as one: both guards' rows stand among them, the first's under their own numbers and the second's under
--- their names, and each is a row of one of the two. So they fit, and the first's literals are said to be renumbered too.
--- Assumes nothing.
-use mathlib.Core.Path.{_≡_, refl, ap, sym, subst, _∙_}
+-- their names, and each is a row of one of the two. So they fit. Assumes nothing.
+use mathlib.Core.Path.{_≡_, ap, sym, subst, _∙_}
 use mathlib.Core.Bool.{true}
-use mathlib.Core.List.{List, _++_, map, map-id}
+use mathlib.Core.List.{List, map, map-id}
 use mathlib.Core.Logic.{_⊎_, inl, inr}
 use Prim.Native.Nat.{ℕ, _+_, _<_}
 use native.Mathlib.Omega.{arith}
@@ -21,14 +20,17 @@ use Rattle.guard.specs.WellFormed.{WellFormed}
 use Rattle.guard.proofs.Accepted.{RowsFit}
 use Rattle.merged.specs.Merge.{merged, names, renamedLiteral, renamedRow, sameVariables, written}
 use Rattle.merged.proofs.Naming.{Names, Naming, naming, stands, variable-row, written-named}
-use Rattle.merged.proofs.Renumbered.{Among, own-literal, own-named, own-row, row-fits}
+use Rattle.merged.proofs.Renumbered.{Among, StandsAt, own-literal, own-named, own-row, row-fits}
 
--- the second guard over the first's types, which are its own
-abbrev pub second : Guard → Guard → Guard
-second g h = record { types = g .types; rows = h .rows; literals = h .literals }
+-- a guard over given types
+abbrev pub over : Types → Guard → Guard
+over ts g = record { types = ts; rows = g .rows; literals = g .literals }
 
-pub second-is : (g h : Guard) → g .types ≡ h .types → second g h ≡ h
-second-is g h e = ap (λ (ts : Types). let k : Guard = record { types = ts; rows = h .rows; literals = h .literals } in k) e
+pub over-own : (ts : Types) (g : Guard) → ts ≡ g .types → over ts g ≡ g
+over-own ts g e = ap (λ (us : Types). over us g) e
+
+pub over-formed : (limits : Limits) (ts : Types) (g : Guard) → ts ≡ g .types → WellFormed limits g → WellFormed limits (over ts g)
+over-formed limits ts g e = subst (WellFormed limits) (sym (over-own ts g e))
 
 -- the numbers of a guard's rows
 abbrev pub own : Guard → List ℕ
@@ -38,21 +40,25 @@ pub own-literals : (limits : Limits) (g : Guard) → WellFormed limits g → map
 own-literals limits g wg = map-cong (renamedLiteral (own g)) (λ l. l) (g .literals) (λ l m. own-literal (g .types) (g .rows) l (wg .literals l m)) ∙ map-id (g .literals)
 
 module _ (g h : Guard) where
+  -- the rows behind the first's
+  abbrev renumbered : List Row
+  renumbered = map (renamedRow (names g h)) (written g h)
+
   all-rows : length (merged g h .rows) ≡ length (g .rows) + length (written g h)
   unfolding merged
-  all-rows = length-append (g .rows) (map (renamedRow (names g h)) (written g h)) ∙ ap (λ (n : ℕ). length (g .rows) + n) (map-length (renamedRow (names g h)) (written g h))
+  all-rows = length-append (g .rows) renumbered ∙ ap (λ (n : ℕ). length (g .rows) + n) (map-length (renamedRow (names g h)) (written g h))
 
   first-row : (i : ℕ) → i < length (g .rows) → rowAt (merged g h .rows) i ≡ rowAt (g .rows) i
   unfolding merged
-  first-row i l = List·getD-append (g .rows) (map (renamedRow (names g h)) (written g h)) noRow i l
+  first-row i l = List·getD-append (g .rows) renumbered noRow i l
 
   written-row : (k : ℕ) → rowAt (merged g h .rows) (length (g .rows) + k) ≡ renamedRow (names g h) (rowAt (written g h) k)
   unfolding merged
-  written-row k = getD-append-add (g .rows) (map (renamedRow (names g h)) (written g h)) k noRow ∙ List·getD-map (renamedRow (names g h)) (written g h) k noRow
+  written-row k = getD-append-add (g .rows) renumbered k noRow ∙ List·getD-map (renamedRow (names g h)) (written g h) k noRow
 
   pub first-among : (limits : Limits) → WellFormed limits g → Among (merged g h .rows) (own g) (g .rows)
   first-among limits wg i l =
-      subst (λ (q : ℕ). (q < length (merged g h .rows)) × (rowAt (merged g h .rows) q ≡ renamedRow (own g) (rowAt (g .rows) i))) (sym (own-named (length (g .rows)) i l))
+      subst (λ (q : ℕ). StandsAt (merged g h .rows) (own g) q (rowAt (g .rows) i)) (sym (own-named (length (g .rows)) i l))
       (omega (arith, all-rows), first-row i l ∙ sym (own-row (g .types) (g .rows) (length (g .rows)) i (rowAt (g .rows) i) (omega arith) (wg .rows i l)))
 
   module _ (agree : sameVariables g h ≡ true) where
@@ -62,7 +68,7 @@ module _ (g h : Guard) where
 
     pub second-among : Among (merged g h .rows) (names g h) (h .rows)
     second-among =
-        stands (g .rows) (λ q r. (q < length (merged g h .rows)) × (rowAt (merged g h .rows) q ≡ renamedRow (names g h) r))
+        stands (g .rows) (StandsAt (merged g h .rows) (names g h))
         (λ x t e. let l : x < length (g .rows) = variable-row (g .rows) x t e in (omega (arith, all-rows), first-row x l ∙ e)) named-rows
         (λ k l. (omega (arith, all-rows), written-row k))
 
@@ -72,7 +78,7 @@ module _ (g h : Guard) where
         (λ b. let i : q < length (g .rows) = ltb-true q _ b in inl (record { row = q; inside = i; name = own-named _ q i; higher = λ j d. omega (arith, own-named (length (g .rows)) j (omega arith)) }))
         (λ b. inr (written-named (g .rows) named-rows (omega arith) q (ltb-false q _ b) (omega (arith, all-rows))))
 
-    pub merged-rows-fit : (limits : Limits) → WellFormed limits g → WellFormed limits (second g h) → RowsFit (g .types) (merged g h .rows)
+    pub merged-rows-fit : (limits : Limits) → WellFormed limits g → WellFormed limits (over (g .types) h) → RowsFit (g .types) (merged g h .rows)
     merged-rows-fit limits wg wh q l =
         either (row-fits (g .types) (merged g h .rows) (own g) (g .rows) (first-among limits wg) (wg .rows) q)
         (row-fits (g .types) (merged g h .rows) (names g h) (h .rows) second-among (wh .rows) q) (row-of q l)

@@ -2,14 +2,14 @@
 -- or it is written, and has the next number. Whatever holds of the first's variables and of the written rows at their numbers then
 -- holds of all the second's rows at their names; and each written row is one of the second's, behind the names of those before it.
 -- Assumes nothing.
-use mathlib.Core.Path.{_≡_, refl, ap, sym, subst, _∙_}
-use mathlib.Core.Bool.{true, _&&_}
+use mathlib.Core.Path.{_≡_, ap, sym, subst, _∙_}
+use mathlib.Core.Bool.{true}
 use mathlib.Core.List.{List, [], _∷_}
 use Prim.Native.Nat.{ℕ, zero, suc, _+_, _≤_, _<_}
 use native.Mathlib.Omega.{arith}
 use native.Mathlib.Nat.{add-zero, zero-add}
 use lib.Dec.{eqb, ltb}
-use lib.ListN.{length, getD, List·getD-eq-default}
+use lib.ListN.{length, List·getD-eq-default}
 use lib.IntN.{pos}
 use borrow.Author.Tests.{eqb-false, eqb-true, ltb-true, ltb-false}
 use Rattle.laws.specs.All.{All, All.more, All.none}

@@ -33,7 +33,7 @@ pub record Part (limits : Limits) (all : List Row) (ρ : ℕ → Message) (k : G
   pub among : Among all names (k .rows)
   pub same : (i : ℕ) → i < length (k .rows) → ρ (named names i) ≡ σ i
 
-module _ (limits : Limits) (all : List Row) (ρ : ℕ → Message) (k : Guard) (names : List ℕ) (σ : ℕ → Message) (part : Part limits all ρ k names σ) where
+module _ {limits : Limits} {all : List Row} {ρ : ℕ → Message} {k : Guard} {names : List ℕ} {σ : ℕ → Message} (part : Part limits all ρ k names σ) where
   abbrev vals : List Message
   vals = valuesFrom (k .types) ρ [] all
 

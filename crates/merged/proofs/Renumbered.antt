@@ -2,12 +2,11 @@
 -- and a row has the value that it had, if the rows that it names have. Rows that keep their numbers are a case of this.
 -- Assumes nothing.
 use mathlib.Core.Path.{_≡_, refl, ap, ap₂, sym, subst, _∙_}
-use mathlib.Core.List.{List, [], _∷_, map, map-id}
+use mathlib.Core.List.{List, map-id}
 use Prim.Native.Nat.{ℕ, _≤_, _<_}
 use native.Mathlib.Omega.{arith}
 use native.Mathlib.Nat.{zero-add}
 use lib.ListN.{length, getD}
-use Rattle.laws.specs.All.{All}
 use Rattle.laws.specs.Lists.{from}
 use Rattle.laws.proofs.Lists.{all-map, all-mem, from-at, map-cong, map-map}
 use Rattle.guard.specs.Guard.{Literal, Literal.equal, Literal.is, Literal.isnt, Literal.unequal, Row, Row.built, Row.constant, Row.field, Row.variable, rowAt, typeAt, typeOf}
@@ -19,9 +18,13 @@ use Rattle.guard.proofs.Accepted.{RowsFit}
 use Rattle.merged.specs.Merge.{named, renamedLiteral, renamedRow}
 use Rattle.merged.proofs.Naming.{Names}
 
--- each of the rows stands under its name among all of them, renumbered
+-- the row at a number is the one given, renumbered
+abbrev pub StandsAt : List Row → List ℕ → ℕ → Row → Type 0
+StandsAt all names q r = (q < length all) × (rowAt all q ≡ renamedRow names r)
+
+-- each of the rows stands at its name
 abbrev pub Among : List Row → List ℕ → List Row → Type 0
-Among all names rs = (i : ℕ) → i < length rs → (named names i < length all) × (rowAt all (named names i) ≡ renamedRow names (rowAt rs i))
+Among all names rs = (i : ℕ) → i < length rs → StandsAt all names (named names i) (rowAt rs i)
 
 -- a variable comes from a variable
 pub renamed-variable : (names : List ℕ) (r : Row) (t : ℕ) → renamedRow names r ≡ variable t → r ≡ variable t
@@ -42,9 +45,12 @@ module _ (ts : Types) where
         → RowFits ts all q (renamedRow names r)
     renamed-fits all q (variable t) f at = f
     renamed-fits all q (constant t z) f at = f
-    renamed-fits all q (built t v ps) f at =
-        (f .0, f .1, all-map (named names) ps (λ p m. at p (all-mem (f .2) p m) .0),
-        map-map (typeAt ts all) (named names) ps ∙ map-cong (λ p. typeAt ts all (named names p)) (typeAt ts rs) ps (λ p m. at p (all-mem (f .2) p m) .1) ∙ f .3)
+    renamed-fits all q (built t v ps) f at = (
+      f .0,
+      f .1,
+      all-map (named names) ps (λ p m. at p (all-mem (f .2) p m) .0),
+      map-map (typeAt ts all) (named names) ps ∙ map-cong (λ p. typeAt ts all (named names p)) (typeAt ts rs) ps (λ p m. at p (all-mem (f .2) p m) .1) ∙ f .3,
+    )
     renamed-fits all q (field t a v p) f at = (at a (f .0) .0, at a (f .0) .1 ∙ f .1, f .2, f .3)
 
     pub renamed-value : (ρ σ : ℕ → Message) (q : ℕ) (xs ys : List Message) (r : Row) → RowFits ts rs i r → ρ q ≡ σ i

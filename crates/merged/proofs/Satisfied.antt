@@ -16,14 +16,14 @@ use Rattle.guard.specs.WellFormed.{WellFormed}
 use Rattle.guard.proofs.Accepted.{RowsFit}
 use Rattle.merged.specs.Merge.{merged, names, renamedLiteral, sameVariables}
 use Rattle.merged.specs.PartsOf.{secondPart}
-use Rattle.merged.proofs.MergedRows.{first-among, merged-rows-fit, own, own-literals, row-of, second, second-among, second-is}
+use Rattle.merged.proofs.MergedRows.{first-among, merged-rows-fit, own, own-literals, over, over-formed, over-own, row-of, second-among}
 use Rattle.merged.proofs.Naming.{variable-row}
 use Rattle.merged.proofs.PartHolds.{Part, all-hold, belongs-at, each-holds, literals-hold, part-holds}
 use Rattle.merged.proofs.Renumbered.{own-named}
 
 module _ (limits : Limits) (g h : Guard) (wg : WellFormed limits g) (wh : WellFormed limits h) (same : g .types ≡ h .types) (agree : sameVariables g h ≡ true) (ρ : ℕ → Message) where
-  second-formed : WellFormed limits (second g h)
-  second-formed = subst (WellFormed limits) (sym (second-is g h same)) wh
+  second-formed : WellFormed limits (over (g .types) h)
+  second-formed = over-formed limits (g .types) h same wh
 
   fit : RowsFit (g .types) (merged g h .rows)
   fit = merged-rows-fit g h agree limits wg second-formed
@@ -31,7 +31,7 @@ module _ (limits : Limits) (g h : Guard) (wg : WellFormed limits g) (wh : WellFo
   first-part : Part limits (merged g h .rows) ρ g (own g) ρ
   first-part = record { all-fit = fit; formed = wg; among = first-among g h limits wg; same = λ i l. ap ρ (own-named (length (g .rows)) i l) }
 
-  second-part : Part limits (merged g h .rows) ρ (second g h) (names g h) (secondPart g h ρ)
+  second-part : Part limits (merged g h .rows) ρ (over (g .types) h) (names g h) (secondPart g h ρ)
   second-part = record { all-fit = fit; formed = second-formed; among = second-among g h agree; same = λ i l. refl }
 
   -- the literals of both, renumbered
@@ -45,29 +45,25 @@ module _ (limits : Limits) (g h : Guard) (wg : WellFormed limits g) (wh : WellFo
   unfolding merged
   both-literals = ap (λ (ls : List Literal). ls ++ seconds) (own-literals limits g wg)
 
+  abbrev Each : List Literal → Type 0
+  Each = All (LiteralHolds (values (merged g h) ρ))
+
   pub holds-both : Holds (merged g h) ρ → Holds g ρ × Holds h (secondPart g h ρ)
   unfolding merged
   holds-both w =
-      let all : All (LiteralHolds (values (merged g h) ρ)) (firsts ++ seconds) =
-          subst (All (LiteralHolds (values (merged g h) ρ))) (sym both-literals) (each-holds (values (merged g h) ρ) (merged g h .literals) (w .literals)) in
-      (part-holds limits (merged g h .rows) ρ g (own g) ρ first-part (w .assigns .belongs) (all-left firsts seconds all),
-      subst (λ (k : Guard). Holds k (secondPart g h ρ)) (second-is g h same)
-      (part-holds limits (merged g h .rows) ρ (second g h) (names g h) (secondPart g h ρ) second-part (w .assigns .belongs) (all-right firsts seconds all)))
+      let each : Each (firsts ++ seconds) = subst Each (sym both-literals) (each-holds (values (merged g h) ρ) (merged g h .literals) (w .literals)) in
+      let second : Holds (over (g .types) h) (secondPart g h ρ) = part-holds second-part (w .assigns .belongs) (all-right firsts seconds each) in
+      (part-holds first-part (w .assigns .belongs) (all-left firsts seconds each), subst (λ (k : Guard). Holds k (secondPart g h ρ)) (over-own (g .types) h same) second)
 
   pub both-hold : Holds g ρ → Holds h (secondPart g h ρ) → Holds (merged g h) ρ
   unfolding merged
   both-hold v w =
-      let w′ : Holds (second g h) (secondPart g h ρ) = subst (λ (k : Guard). Holds k (secondPart g h ρ)) (sym (second-is g h same)) w in
+      let second : Holds (over (g .types) h) (secondPart g h ρ) = subst (λ (k : Guard). Holds k (secondPart g h ρ)) (sym (over-own (g .types) h same)) w in
       record {
         assigns =
             record {
               belongs = λ q t e.
-                  either (belongs-at limits (merged g h .rows) ρ g (own g) ρ first-part v q t e)
-                  (belongs-at limits (merged g h .rows) ρ (second g h) (names g h) (secondPart g h ρ) second-part w′ q t e)
-                  (row-of g h agree q (variable-row (merged g h .rows) q t e));
+                  either (belongs-at first-part v q t e) (belongs-at second-part second q t e) (row-of g h agree q (variable-row (merged g h .rows) q t e));
             };
-        literals =
-            all-hold (values (merged g h) ρ)
-            (subst (All (LiteralHolds (values (merged g h) ρ))) both-literals
-            (all-append (literals-hold limits (merged g h .rows) ρ g (own g) ρ first-part v) (literals-hold limits (merged g h .rows) ρ (second g h) (names g h) (secondPart g h ρ) second-part w′)));
+        literals = all-hold (values (merged g h) ρ) (subst Each both-literals (all-append (literals-hold first-part v) (literals-hold second-part second)));
       }
