@@ -26,7 +26,8 @@ use Rattle.reader.specs.declared.Tables.{Tables}
 use Rattle.decide.specs.Decides.{Decides}
 use Rattle.searchanswer.specs.Searched.{AnswersTables}
 use Rattle.cleared.proofs.Cleared.{long-zero}
-use Rattle.roots.proofs.TablesRead.{guard-accepted, guard-tables, refused-file, taken-file}
+use Rattle.reader.proofs.TablesRead.{guard-tables, refused-file, taken-file}
+use Rattle.roots.proofs.TablesRead.{guard-accepted}
 
 -- ---- verdicts and visits
 
@@ -106,7 +107,7 @@ module _ (bytes : List ℕ) (budget : ℕ) (rows places rows′ places′ : List
     module _ (roomRows : 16384 ≤ length rows) (roomPlaces : 24 ≤ length places) (t : Tables) (is : t ≡ tablesAt base bytes) where
       -- the questions of the file
       pub file-refused : ¬ (t .refused ≡ 0) → Decides base bytes budget rows places (Refused (t .refused)) rows′ places′
-      file-refused n = refused-decides (t .refused) (long-buffers base bytes (length rows) (length places) roomRows roomPlaces ∙ refused-file base base-supported bytes t is n)
+      file-refused n = refused-decides (t .refused) (long-buffers base bytes (length rows) (length places) roomRows roomPlaces ∙ refused-file base bytes t is n)
 
   -- ---- the others
 
@@ -116,12 +117,12 @@ module _ (bytes : List ℕ) (budget : ℕ) (rows places rows′ places′ : List
 
     module _ (r : Answer) (a : AnswersTables t budget rows places r rows′ places′) where
       answer-of : (g : Guard) (rest : List ℕ) → file base bytes ≡ accepted g rest → outcomeOf r ≡ withBudget budget (searchOf g)
-      answer-of g rest e = a .says g (guard-accepted base base-supported bytes t is g rest e) (guard-tables base base-supported bytes t is g rest e)
+      answer-of g rest e = a .says g (guard-accepted base base-supported bytes g rest e) (guard-tables base bytes t is g rest e)
 
       answer-says : outcomeOf r ≡ outcome base bytes budget (length rows) (length places)
       unfolding outcome
       answer-says =
-          let (g, rest, e) = taken-file base base-supported bytes t is taken in
+          let (g, rest, e) = taken-file base bytes t is taken in
           answer-of g rest e ∙ sym (ap (afterQuestions budget) (same-questions ∙ e))
 
       none-hold : (g : Guard) (rest : List ℕ) → file base bytes ≡ accepted g rest → (c : Counts) → outcomeOf r ≡ unsat c → ¬ Satisfiable g
@@ -136,6 +137,6 @@ module _ (bytes : List ℕ) (budget : ℕ) (rows places rows′ places′ : List
             longRows = a .longRows;
             longPlaces = a .longPlaces;
             cleared = a .cleared;
-            shown = λ g rest q n h. let e : file base bytes ≡ accepted g rest = sym same-questions ∙ q in a .shown g (guard-accepted base base-supported bytes t is g rest e) (guard-tables base base-supported bytes t is g rest e) n h;
+            shown = λ g rest q n h. let e : file base bytes ≡ accepted g rest = sym same-questions ∙ q in a .shown g (guard-accepted base base-supported bytes g rest e) (guard-tables base bytes t is g rest e) n h;
             dead = λ g rest q n h. none-hold g rest (sym same-questions ∙ q) n h;
           }

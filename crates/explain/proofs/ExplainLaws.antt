@@ -19,7 +19,8 @@ use Rattle.guard.proofs.Claims.{base-supported}
 use Rattle.reader.specs.declared.Tables.{Tables}
 use Rattle.reader.specs.Reader.{tablesAt}
 use Rattle.roots.specs.Roots.{GuardsTables}
-use Rattle.roots.proofs.TablesRead.{guard-accepted, guard-tables}
+use Rattle.reader.proofs.TablesRead.{guard-tables}
+use Rattle.roots.proofs.TablesRead.{guard-accepted}
 use Rattle.refutations.specs.Record.{recordBytes}
 use Rattle.recordwriter.specs.declared.Written.{Written}
 use Rattle.bytebuffer.specs.Puts.{filled}
@@ -35,13 +36,13 @@ use Rattle.explain.specs.Explains.{Explains, RecordsFile, Taken, askReco
 module _ {bytes : List ℕ} {t : Tables} (is : t ≡ tablesAt base bytes) where
   pub taken-tables : Taken bytes → GuardsTables t
   taken-tables k =
-      record { guard = k .guard; accepted = guard-accepted base base-supported bytes t is (k .guard) (k .rest) (k .is); is = guard-tables base base-supported bytes t is (k .guard) (k .rest) (k .is) }
+      record { guard = k .guard; accepted = guard-accepted base base-supported bytes (k .guard) (k .rest) (k .is); is = guard-tables base bytes t is (k .guard) (k .rest) (k .is) }
 
   pub file-record : {w : Written} {lent lent′ : List ℕ} → Records t w lent lent′ → RecordsFile bytes w lent lent′
   file-record r =
       record {
-        says = λ g rest e. r .says g (guard-accepted base base-supported bytes t is g rest e) (guard-tables base base-supported bytes t is g rest e);
-        left = λ g rest e. r .left g (guard-accepted base base-supported bytes t is g rest e) (guard-tables base base-supported bytes t is g rest e);
+        says = λ g rest e. r .says g (guard-accepted base base-supported bytes g rest e) (guard-tables base bytes t is g rest e);
+        left = λ g rest e. r .left g (guard-accepted base base-supported bytes g rest e) (guard-tables base bytes t is g rest e);
       }
 
 -- ---- answers other than UNSAT

@@ -1,2 +1,3 @@
 pub mod Merge
+pub mod PartsOf
 pub mod MergeCases

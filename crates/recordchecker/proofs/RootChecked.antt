@@ -21,7 +21,8 @@ use Rattle.problem.specs.declared.Problem.{Problem}
 use Rattle.problem.specs.Columns.{problemBy}
 use Rattle.search.specs.Nodes.{Accepted}
 use Rattle.roots.proofs.RootLaws.{arrays-of, givenIn, root-begun}
-use Rattle.roots.proofs.TablesRead.{guard-accepted, guard-tables, refused-file, taken-file}
+use Rattle.reader.proofs.TablesRead.{guard-tables, refused-file, taken-file}
+use Rattle.roots.proofs.TablesRead.{guard-accepted}
 use Rattle.refutations.specs.Checker.{check, checkFrom, checked, noMore}
 use Rattle.refutations.proofs.Theorems.{file-refused, file-taken}
 use Rattle.nodechecker.specs.declared.NodeRead.{NodeRead}
@@ -72,11 +73,11 @@ module _ (tables : Tables) (bytes : List ℕ) (r : NodeRead) (root : ChecksRoot 
 
 module _ (bytes written : List ℕ) (t : Tables) (is : t ≡ tablesAt base bytes) where
   pub file-refuses : ¬ (t .refused ≡ 0) → answer (t .refused) ≡ checked base bytes written
-  file-refuses n = is-question (t .refused) n ∙ sym (file-refused base bytes written (t .refused) (refused-file base base-supported bytes t is n))
+  file-refuses n = is-question (t .refused) n ∙ sym (file-refused base bytes written (t .refused) (refused-file base bytes t is n))
 
   pub file-takes : t .refused ≡ 0 → (r : ℕ) → ChecksTables t written r → answer r ≡ checked base bytes written
   unfolding ChecksTables
   file-takes z r c =
-      let (g, rest, e) = taken-file base base-supported bytes t is z in
-      c g (guard-accepted base base-supported bytes t is g rest e) (guard-tables base base-supported bytes t is g rest e)
+      let (g, rest, e) = taken-file base bytes t is z in
+      c g (guard-accepted base base-supported bytes g rest e) (guard-tables base bytes t is g rest e)
       ∙ sym (file-taken base bytes written g (accepts-all base bytes g rest base-supported e))
