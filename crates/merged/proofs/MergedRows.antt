@@ -2,7 +2,7 @@
 -- their names, and each is a row of one of the two. So they fit. Assumes nothing.
 use mathlib.Core.Path.{_≡_, ap, sym, subst, _∙_}
 use mathlib.Core.Bool.{true}
-use mathlib.Core.List.{List, map, map-id}
+use mathlib.Core.List.{List, map}
 use mathlib.Core.Logic.{_⊎_, inl, inr}
 use Prim.Native.Nat.{ℕ, _+_, _<_}
 use native.Mathlib.Omega.{arith}
@@ -12,7 +12,7 @@ use lib.Seq.{getD-append-add}
 use borrow.Author.Tests.{ltb-false, ltb-true}
 use Rattle.laws.specs.Lists.{from}
 use Rattle.laws.proofs.Bools.{by-test, either}
-use Rattle.laws.proofs.Lists.{map-cong, map-length}
+use Rattle.laws.proofs.Lists.{all-of, map-length}
 use Rattle.guard.specs.Guard.{Guard, Row, noRow, rowAt}
 use Rattle.guard.specs.Limits.{Limits}
 use Rattle.guard.specs.Types.{Types}
@@ -20,7 +20,8 @@ use Rattle.guard.specs.WellFormed.{WellFormed}
 use Rattle.guard.proofs.Accepted.{RowsFit}
 use Rattle.merged.specs.Merge.{merged, names, renamedLiteral, renamedRow, sameVariables, written}
 use Rattle.merged.proofs.Naming.{Names, Naming, naming, stands, variable-row, written-named}
-use Rattle.merged.proofs.Renumbered.{Among, StandsAt, own-literal, own-named, own-row, row-fits}
+use Rattle.merged.proofs.Renumbered.{Among, StandsAt, own-named, own-row, row-fits}
+use Rattle.merged.proofs.Renaming as renaming
 
 -- a guard over given types
 abbrev pub over : Types → Guard → Guard
@@ -37,7 +38,7 @@ abbrev pub own : Guard → List ℕ
 own g = from (length (g .rows)) 0
 
 pub own-literals : (limits : Limits) (g : Guard) → WellFormed limits g → map (renamedLiteral (own g)) (g .literals) ≡ g .literals
-own-literals limits g wg = map-cong (renamedLiteral (own g)) (λ l. l) (g .literals) (λ l m. own-literal (g .types) (g .rows) l (wg .literals l m)) ∙ map-id (g .literals)
+own-literals limits g wg = renaming.own-literals (length (g .rows)) (g .types) (g .rows) (omega arith) (g .literals) (all-of (g .literals) (wg .literals))
 
 module _ (g h : Guard) where
   -- the rows behind the first's

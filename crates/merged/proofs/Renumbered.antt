@@ -99,8 +99,8 @@ module _ (ts : Types) (rs : List Row) where
       ap (built t v) (map-cong (named (from n 0)) (λ p. p) ps (λ p m. own-named n p (omega (arith, all-mem (f .2) p m))) ∙ map-id ps)
   own-row n i (field t a v p) l f = ap (λ (b : ℕ). field t b v p) (own-named n a (omega (arith, f .0)))
 
-  pub own-literal : (l : Literal) → LiteralFits ts rs l → renamedLiteral (from (length rs) 0) l ≡ l
-  own-literal (equal i j) f = ap₂ equal (own-named _ i (f .0)) (own-named _ j (f .1))
-  own-literal (unequal i j) f = ap₂ unequal (own-named _ i (f .0)) (own-named _ j (f .1))
-  own-literal (is i v) f = ap (λ (k : ℕ). is k v) (own-named _ i (f .0))
-  own-literal (isnt i v) f = ap (λ (k : ℕ). isnt k v) (own-named _ i (f .0))
+  pub own-literal : (n : ℕ) (l : Literal) → length rs ≤ n → LiteralFits ts rs l → renamedLiteral (from n 0) l ≡ l
+  own-literal n (equal i j) l f = ap₂ equal (own-named n i (omega (arith, f .0))) (own-named n j (omega (arith, f .1)))
+  own-literal n (unequal i j) l f = ap₂ unequal (own-named n i (omega (arith, f .0))) (own-named n j (omega (arith, f .1)))
+  own-literal n (is i v) l f = ap (λ (k : ℕ). is k v) (own-named n i (omega (arith, f .0)))
+  own-literal n (isnt i v) l f = ap (λ (k : ℕ). isnt k v) (own-named n i (omega (arith, f .0)))
