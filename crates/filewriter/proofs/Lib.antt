@@ -1,3 +1,4 @@
+pub mod Answers
 pub mod TokenLaws
 pub mod WriteLaws
 pub mod Corollaries

@@ -42,20 +42,10 @@ taken-is : (g : Guard) → guardTables g .refused ≡ 0
 unfolding guardTables
 taken-is g = refl
 
-module _ (p : Parsed Guard) (t : Tables) (n : ℕ) where
-  pub refused-answer : ReadsList p t → ¬ (t .refused ≡ 0) → record { refused = t .refused; bytes = 0 } ≡ answerTo p n
-  refused-answer r h = go p r
-    where
-      go : (p : Parsed Guard) → ReadsList p t → record { refused = t .refused; bytes = 0 } ≡ answerTo p n
-      go (refused q) e = ap (λ (k : ℕ). record { refused = k; bytes = 0 }) (ap (λ (x : Tables). x .refused) e ∙ refused-is q)
-      go (accepted g rest) (k, e, s) = absurd (h (ap (λ (x : Tables). x .refused) e ∙ taken-is k))
-
-  pub refused-left : ReadsList p t → ¬ (t .refused ≡ 0) → replicate n 0 ≡ leftBy p n
-  refused-left r h = go p r
-    where
-      go : (p : Parsed Guard) → ReadsList p t → replicate n 0 ≡ leftBy p n
-      go (refused q) e = refl
-      go (accepted g rest) (k, e, s) = absurd (h (ap (λ (x : Tables). x .refused) e ∙ taken-is k))
+-- a list that is refused has tables that say so
+pub refused-list : (p : Parsed Guard) (t : Tables) → ReadsList p t → ¬ (t .refused ≡ 0) → p ≡ refused (t .refused)
+refused-list (refused q) t e h = ap refused (sym (ap (λ (x : Tables). x .refused) e ∙ refused-is q))
+refused-list (accepted g rest) t (k, e, s) h = absurd (h (ap (λ (x : Tables). x .refused) e ∙ taken-is k))
 
 -- ---- lists that are taken
 
@@ -168,21 +158,5 @@ module _ {zs : List ℤ} {t : Tables} (k : Taken zs t) where
 
   -- ---- the answer
 
-  module _ (out : List ℕ) {blank : List ℕ} (clear : blank ≡ replicate (length out) 0) {r : End} {out′ : List ℕ} (w : Puts (bytes (guardTokens g)) blank 0 r out′) where
-    puts : Puts (bytesOf g) blank 0 r out′
-    puts = subst (λ (bs : List ℕ). Puts bs blank 0 r out′) (sym (bytes-read .0)) w
-
-    by-room : (b : Bool) → r .fits ≡ b → answerTo (listFile base zs) (length out) ≡ cond b (record { refused = 0; bytes = length (bytesOf g) }) (record { refused = 14; bytes = 0 })
-    by-room b q = ap (λ (p : Parsed Guard). answerTo p (length out)) (k .is) ∙ ap (λ (b : Bool). cond b (record { refused = 0; bytes = length (bytesOf g) }) (record { refused = 14; bytes = 0 })) (fits-room out clear puts b q)
-
-    pub written-answer : r .fits ≡ true → record { refused = 0; bytes = r .at } ≡ answerTo (listFile base zs) (length out)
-    written-answer q = ap (λ (n : ℕ). record { refused = 0; bytes = n }) (ends-there out clear puts q) ∙ sym (by-room true q)
-
-    pub written-left : r .fits ≡ true → out′ ≡ leftBy (listFile base zs) (length out)
-    written-left q = fills out clear puts q ∙ ap (λ (p : Parsed Guard). leftBy p (length out)) (sym (k .is))
-
-    pub short-answer : r .fits ≡ false → record { refused = 14; bytes = 0 } ≡ answerTo (listFile base zs) (length out)
-    short-answer q = sym (by-room false q)
-
-    pub short-left : r .fits ≡ false → {last : List ℕ} → last ≡ replicate (length out′) 0 → last ≡ leftBy (listFile base zs) (length out)
-    short-left q e = outgrows out clear puts q e ∙ ap (λ (p : Parsed Guard). leftBy p (length out)) (sym (k .is))
+  pub file-puts : {out : List ℕ} {r : End} {out′ : List ℕ} → Puts (bytes (guardTokens g)) out 0 r out′ → Puts (bytesOf g) out 0 r out′
+  file-puts {out} {r} {out′} w = subst (λ (bs : List ℕ). Puts bs out 0 r out′) (sym (bytes-read .0)) w

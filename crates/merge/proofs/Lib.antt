@@ -1,3 +1,3 @@
 pub mod Held
 pub mod MergedBytes
-pub mod Answers
+pub mod Questions

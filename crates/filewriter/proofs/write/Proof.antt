@@ -13,7 +13,8 @@ use Rattle.serialize.specs.NumberList.{listFile}
 use Rattle.serialize.specs.Tokens.{guardTokens}
 use Rattle.valuemarks.specs.Marks.{untilLines}
 use Rattle.filewriter.specs.Marking.{Marked}
-use Rattle.filewriter.proofs.WriteLaws.{Taken, all-marked, lines-few, list-length, listed-tables, refused-answer, refused-left, short-answer, short-left, taken, written-answer, written-left}
+use Rattle.filewriter.proofs.Answers.{answers-refused, answers-short, answers-written}
+use Rattle.filewriter.proofs.WriteLaws.{Taken, all-marked, file-puts, lines-few, list-length, listed-tables, refused-list, taken}
 use Rattle.filewriter.proofs.write.Statement.{statement}
 use Rattle.filewriter.proofs.write.Tie as tie
 
@@ -31,10 +32,8 @@ returns : tie.Need-returns
 returns c =
     let r = c .before .before in
     let h : ¬ (r .read-list .result .refused ≡ 0) = c .if1 .taken in
-    let read = r .read-list .ensures .0 in (
-      refused-answer (listFile base (list-of r)) (r .read-list .result) (length (out-of r)) read h,
-      (r .read-list .ensures .1, cleared-of r .clear .ensures ∙ refused-left (listFile base (list-of r)) (r .read-list .result) (length (out-of r)) read h),
-    )
+    let a = answers-refused (refused-list (listFile base (list-of r)) (r .read-list .result) (r .read-list .ensures .0) h) (length (out-of r)) (cleared-of r .clear .ensures) in
+    (a .0, (r .read-list .ensures .1, a .1))
 
 -- the list is taken
 taken-by : (c : tie.Else1) → Taken (list-of (c .before .before)) (c .before .before .read-list .result)
@@ -72,7 +71,8 @@ returns-2 c =
     let r = m .before .before .before .before .before .before in
     let w = p .put-numbers .ensures .puts _ (marked-by m) in
     let f = not-true _ (t .if2 .taken) in
-    (short-answer k (out-of r) (cleared-of r .clear .ensures) w f, ((λ e. omega arith), short-left k (out-of r) (cleared-of r .clear .ensures) w f (cl .clear2 .ensures)))
+    let a = answers-short (k .is) (out-of r) (cleared-of r .clear .ensures) (file-puts k w) f (cl .clear2 .ensures) in
+    (a .0, ((λ e. omega arith), a .1))
 
 returns-3 : tie.Need-returns-3
 returns-3 c =
@@ -82,7 +82,8 @@ returns-3 c =
     let r = m .before .before .before .before .before .before in
     let w = p .put-numbers .ensures .puts _ (marked-by m) in
     let f = not-false _ (c .if2 .left) in
-    (written-answer k (out-of r) (cleared-of r .clear .ensures) w f, ((λ e. omega arith), written-left k (out-of r) (cleared-of r .clear .ensures) w f))
+    let a = answers-written (k .is) (out-of r) (cleared-of r .clear .ensures) (file-puts k w) f in
+    (a .0, ((λ e. omega arith), a .1))
 
 pub write-spec : {M : Type 1} → statement M
 write-spec =
