@@ -1,0 +1,4 @@
+pub mod HeldWalk
+pub mod Prefixes
+pub mod Variables
+pub mod Walk
