@@ -17,8 +17,8 @@ use Rattle.tables.specs.Layout.{pad, rowKind, rowTable}
 use Rattle.tables.proofs.Columns.{pad-length}
 use Rattle.tables.proofs.Lookups.{row-kind-at, row-type-anywhere}
 use Rattle.heldparts.specs.Held.{HoldsRows}
-use Rattle.merged.specs.Merge.{namesFrom, variables, variablesFrom}
-use Rattle.renaming.specs.Names.{AreNames, KindsOf, NamesOf, NextVariable, TwoRows, keptRows}
+use Rattle.merged.specs.Merge.{keptRows, namesFrom, variables, variablesFrom}
+use Rattle.renaming.specs.Names.{AreNames, KindsOf, NamesOf, NextVariable, TwoRows}
 use Rattle.renaming.proofs.Variables.{variables-at, variables-end, variables-small}
 use Rattle.renaming.proofs.Walk.{Midway, begin, few-rows, finished, kept-back, names-length, row-taken, row-written, skips, small-names, taken}
 

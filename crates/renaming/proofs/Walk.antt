@@ -12,8 +12,7 @@ use Rattle.laws.specs.All.{All, All.more, All.none}
 use Rattle.guard.specs.Guard.{Row, Row.built, Row.constant, Row.field, Row.variable, noRow, rowAt, typeAt, typeOf}
 use Rattle.guard.specs.Types.{Types}
 use Rattle.tables.specs.Layout.{pad, rowKind}
-use Rattle.merged.specs.Merge.{namesFrom, typesAgree, variables, writtenOf}
-use Rattle.renaming.specs.Names.{keptRows}
+use Rattle.merged.specs.Merge.{keptRows, namesFrom, typesAgree, variables, writtenOf}
 use Rattle.renaming.proofs.Prefixes.{drop-next, fill-next, fill-zero, filled}
 
 -- 1 for a row that is not written

@@ -1,7 +1,7 @@
 -- What the second's rows are called, and which of them are written. Assumes nothing: definitions.
 use mathlib.Core.Path.{_≡_}
-use mathlib.Core.List.{List, [], _∷_}
-use Prim.Native.Nat.{ℕ, zero, suc, _+_, _≤_, _<_}
+use mathlib.Core.List.{List}
+use Prim.Native.Nat.{ℕ, _+_, _≤_, _<_}
 use lib.ListN.{drop, getD, length}
 use Rattle.laws.specs.All.{All}
 use Rattle.guard.specs.Guard.{Row, rowAt}
@@ -9,15 +9,8 @@ use Rattle.guard.specs.Types.{Types}
 use Rattle.tables.specs.declared.RowTable.{RowTable}
 use Rattle.tables.specs.Layout.{pad, rowKind}
 use Rattle.heldparts.specs.Held.{HoldsRows}
-use Rattle.merged.specs.Merge.{namesFrom, typesAgree, variables, variablesFrom, writtenOf}
+use Rattle.merged.specs.Merge.{keptRows, namesFrom, typesAgree, variables, variablesFrom, writtenOf}
 use Rattle.renaming.specs.declared.Names.{Names}
-
--- the rows at whose place the other list has 0
-abbrev pub keptRows : List ℕ → List Row → List Row
-keptRows [] rs = rs
-keptRows (s ∷ ss) [] = []
-keptRows (zero ∷ ss) (r ∷ rs) = r ∷ keptRows ss rs
-keptRows (suc s ∷ ss) (r ∷ rs) = keptRows ss rs
 
 -- the tables hold the rows of two guards with the same types
 pub record TwoRows (first second : RowTable) : Type 0 where
