@@ -51,6 +51,12 @@ pub record PartsInside (rows : RowTable) (r many : ℕ) : Type 0 where
 abbrev pub partBytes : List ℕ → RowTable → ℕ → ℕ → List ℕ
 partBytes names rows r k = encoded (named names (getD (rows .parts) (3 * r + k) 0))
 
+-- row r is a built one of some types and rows
+pub record BuiltRow (types : TypeTable) (rows : RowTable) (r : ℕ) : Type 0 where
+  pub some : SomeRows types rows
+  pub inside : r < rows .many
+  pub built : getD (rows .kinds) r 0 ≡ 2
+
 -- row r is built from so many parts
 pub record PartCount (types : TypeTable) (rows : RowTable) (r many : ℕ) : Type 0 where
   pub is : (ts : Types) (rs : List Row) → HoldsTypes types ts → HoldsRows rows ts rs → many ≡ length (rowParts (rowAt rs r))
