@@ -1,3 +1,4 @@
 pub mod LoopLaws
 pub mod ByteLaws
 pub mod RowLaws
+pub mod KeptLaws
