@@ -2,3 +2,4 @@ pub mod LoopLaws
 pub mod ByteLaws
 pub mod RowLaws
 pub mod KeptLaws
+pub mod Midway

@@ -1,68 +1,77 @@
+-- `put_rows`: the rows before r stand in the buffer, where they aren't skipped. Assumes nothing.
+use mathlib.Core.Path.{_≡_, sym, subst}
+use mathlib.Core.List.{List}
+use Prim.Native.Nat.{ℕ, _+_, _-_}
+use native.Mathlib.Omega.{arith}
+use lib.ListN.{length}
+use borrow.Author.Needs.{needs}
+use borrow.Author.Tests.{not-false, not-true}
+use Rattle.laws.proofs.Bools.{either}
+use Rattle.rowwriter.proofs.Midway.{Midway, begin, finish, further, pass, same-long, too-long}
+use Rattle.rowwriter.proofs.RowLaws.{some-place}
 use Rattle.rowwriter.proofs.put_rows.Statement.{statement}
 use Rattle.rowwriter.proofs.put_rows.Tie as tie
-use Rattle.rowwriter.proofs.put_rows.Reads as reads
-use Rattle.rowwriter.proofs.put_rows.Lts as lts
-use Rattle.rowwriter.proofs.put_row.Reads as put-row-reads
 
 abbrev Inv-loop : tie.InvT-loop
-Inv-loop types rows names skipped out₀ at next₀ r₀ out next r = ?
+Inv-loop types rows names skipped out₀ at next₀ r₀ out next r = Midway types rows names skipped out₀ at r next out
 
 abbrev μ-loop : tie.MeasureT-loop
-μ-loop types rows names skipped out₀ at next₀ r₀ out next r = ?
+μ-loop types rows names skipped out₀ at next₀ r₀ out next r = rows .many - r
 
--- src/lib.rt:138:5
+-- where control comes together
+moved : (P : ℕ → List ℕ → Type 0) {n n′ : ℕ} {l l′ : List ℕ} → n ≡ n′ → l ≡ l′ → P n′ l′ → P n l
+moved P {n} {n′} {l} {l′} e q p = subst (λ (k : ℕ). P k l) (sym e) (subst (P n′) (sym q) p)
+
 loop-holds : tie.Need-loop-holds Inv-loop μ-loop
-loop-holds c = ?
+loop-holds c = let a = c .before .args in begin (a .types) (a .rows) (a .names .now) (a .skipped .now) (a .out .now) (a .at) (c .before .pre .1)
 
--- src/lib.rt:139:12
 element-copy-out-if2 : tie.Need-element-copy-out-if2 Inv-loop μ-loop
-element-copy-out-if2 c = ?
+element-copy-out-if2 c = let s = c .before .before .before .before in some-place (s .pre .0) (c .if1 .taken)
 
--- src/lib.rt:140:17
 put-row-requires : tie.Need-put-row-requires Inv-loop μ-loop
-put-row-requires c κs = ?
+put-row-requires c κs =
+    let w = c .before .before .before in
+    let l = w .before .before in
+    (l .before .before .pre .0, (w .if1 .taken, l .loop .inv .room))
 
--- src/lib.rt:142:17
 same-length : tie.Need-same-length Inv-loop μ-loop
-same-length c = ?
+same-length c =
+    let p = c .before .before .before .before in
+    let k = p .before .before in
+    let w = k .before .before in
+    let l = w .before .before in
+    same-long (l .loop .inv) (w .if1 .taken) (k .if2 .taken) (p .put-row .ensures) (l .before .before .pre .0)
 
--- src/lib.rt:142:17
 returns : tie.Need-returns Inv-loop μ-loop
-returns c = ?
+returns c =
+    let p = c .before .before .before .before in
+    let k = p .before .before in
+    let w = k .before .before in
+    too-long (w .before .before .loop .inv) (w .if1 .taken) (k .if2 .taken) (p .put-row .ensures) (not-true _ (c .if3 .taken))
 
--- src/lib.rt:146:9
 add-r : tie.Need-add-r Inv-loop μ-loop
-add-r c = ?
+add-r c = search needs
 
--- src/lib.rt:138:5
 loop-less : tie.Need-loop-less Inv-loop μ-loop
-loop-less c = ?
+loop-less c = omega arith
 
--- src/lib.rt:138:5
 loop-again : tie.Need-loop-again Inv-loop μ-loop
-loop-again c = ?
+loop-again c =
+    let w = c .before .before in
+    let l = w .before .before in
+    let a = l .before .before .args in
+    let Then : ℕ → List ℕ → Type 0 = Midway (a .types) (a .rows) (a .names .now) (a .skipped .now) (a .out .now) (a .at) (l .loop .r + 1) in
+    either
+    (λ x. moved Then (x .8) (x .7) (further (l .loop .inv) (w .if1 .taken) (x .0 .taken) (x .2 .ensures) (l .before .before .pre .0) (not-false _ (x .6 .left))))
+    (λ x. moved Then (x .2) (x .1) (pass (l .loop .inv) (w .if1 .taken) (x .0 .left)))
+    (c .if2 .came)
 
--- src/lib.rt:131:1
 same-length-2 : tie.Need-same-length-2 Inv-loop μ-loop
-same-length-2 c = ?
+same-length-2 c = c .before .before .loop .inv .long
 
--- src/lib.rt:131:1
 returns-2 : tie.Need-returns-2 Inv-loop μ-loop
-returns-2 c = ?
+returns-2 c = finish (c .before .before .loop .inv) (omega arith)
 
 pub put-rows-spec : {M : Type 1} → statement M
 put-rows-spec =
-    tie.close
-    (tie.spec
-    Inv-loop
-    μ-loop
-    loop-holds
-    element-copy-out-if2
-    put-row-requires
-    same-length
-    returns
-    add-r
-    loop-less
-    loop-again
-    same-length-2
-    returns-2)
+    tie.close (tie.spec Inv-loop μ-loop loop-holds element-copy-out-if2 put-row-requires same-length returns add-r loop-less loop-again same-length-2 returns-2)
