@@ -1,2 +1,3 @@
 pub mod PutLaws
 pub mod FillLaws
+pub mod EachLaws

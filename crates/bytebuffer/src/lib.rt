@@ -11,6 +11,21 @@ pub struct End {
     pub at: usize,
 }
 
+// A byte at place `at`, if it fits.
+pub fn put_one(out: &mut [u8], at: usize, a: u8) -> End
+    requires { ⌜ at ≤ length (now out) ⌝ }
+    ensures { λ r. ⌜ Puts (a ∷ []) (now (out .entry)) at r (now (out .exit)) ⌝ }
+{
+    if out.len() <= at {
+        return End { fits: false, at };
+    }
+    out[at] = a;
+    End {
+        fits: true,
+        at: at + 1,
+    }
+}
+
 // Two bytes from place `at` on, if both fit.
 pub fn put_two(out: &mut [u8], at: usize, a: u8, b: u8) -> End
     requires { ⌜ at ≤ length (now out) ⌝ }

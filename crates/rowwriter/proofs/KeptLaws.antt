@@ -7,8 +7,8 @@ use Rattle.laws.specs.Lists.{concatMap}
 use Rattle.guard.specs.Guard.{Row, rowAt}
 use Rattle.serialize.specs.Tokens.{rowTokens, tokenBytes}
 use Rattle.serialize.proofs.Copying.{concatMap-append}
-use Rattle.merged.specs.Merge.{renamedRow}
-use Rattle.rowwriter.specs.Rows.{keptRows, rowBytes, upTo}
+use Rattle.merged.specs.Merge.{keptRows, renamedRow}
+use Rattle.rowwriter.specs.Rows.{rowBytes, upTo}
 use Rattle.rowwriter.proofs.LoopLaws.{from-front}
 
 -- nothing where the entry isn't 0

@@ -12,7 +12,7 @@ use Rattle.tables.specs.declared.TypeTable.{TypeTable}
 use Rattle.serialize.specs.Tokens.{rowTokens, tokenBytes}
 use Rattle.encoding.specs.Encoding.{encoded}
 use Rattle.heldparts.specs.Held.{HoldsRows, HoldsTypes}
-use Rattle.merged.specs.Merge.{named, renamedRow}
+use Rattle.merged.specs.Merge.{keptRows, named, renamedRow}
 use Rattle.bytebuffer.specs.declared.End.{End}
 use Rattle.bytebuffer.specs.Puts.{Puts}
 
@@ -20,13 +20,6 @@ use Rattle.bytebuffer.specs.Puts.{Puts}
 abbrev pub upTo : (ℕ → List ℕ) → ℕ → List ℕ
 upTo f zero = []
 upTo f (suc n) = upTo f n ++ f n
-
--- the rows at whose place the other list has 0
-abbrev pub keptRows : List ℕ → List Row → List Row
-keptRows [] rs = rs
-keptRows (s ∷ ss) [] = []
-keptRows (zero ∷ ss) (r ∷ rs) = r ∷ keptRows ss rs
-keptRows (suc s ∷ ss) (r ∷ rs) = keptRows ss rs
 
 -- a row with the terms that it names renumbered, as bytes
 abbrev pub rowBytes : List ℕ → Row → List ℕ
