@@ -1,8 +1,8 @@
 -- Lists of bytes, compared; and codes that say themselves where they end. Assumes nothing.
 use mathlib.Core.Path.{_≡_, refl, ap, ap₂, sym, _∙_}
-use mathlib.Core.Bool.{Bool, true, false, _&&_, false≢true}
+use mathlib.Core.Bool.{true, false, false≢true}
 use mathlib.Core.List.{List, [], _∷_, _++_, append-assoc}
-use Prim.Native.Nat.{ℕ, suc, _≤_}
+use Prim.Native.Nat.{ℕ, _≤_}
 use native.Mathlib.Omega.{arith}
 use lib.Dec.{eqb}
 use lib.ListN.{length}
@@ -10,7 +10,7 @@ use borrow.Author.Tests.{eq-eqb, eqb-true}
 use Rattle.laws.specs.All.{All, All.more, All.none}
 use Rattle.laws.specs.Lists.{concatMap}
 use Rattle.laws.proofs.Bools.{and-both, and-left, and-right, by-test}
-use Rattle.guard.specs.Number.{Parsed, Parsed.accepted, unsigned}
+use Rattle.guard.specs.Number.{Parsed.accepted, unsigned}
 use Rattle.encoding.specs.Encoding.{encoded}
 use Rattle.encoding.proofs.ReadBack.{read-back}
 use Rattle.merged.specs.Merge.{sameBytes}
