@@ -104,7 +104,7 @@ module _ {first second : RowTable} where
     walk-as en es er ea ex = rw (en, es, er, ea, ex) w
 
     pub walk-ends : second .many ≤ i → NamesOf first second (record { names = names; skipped = skipped; rows = next; agree = agree })
-    walk-ends h = record { are = λ ts rs ss hf hs. names-are ts rs ss hf hs }
+    walk-ends h = record { are = names-are }
       where
         names-are : (ts : Types) (rs ss : List Row) → HoldsRows first ts rs → HoldsRows second ts ss → AreNames ts rs ss (record { names = names; skipped = skipped; rows = next; agree = agree })
         names-are ts rs ss hf hs =

@@ -1,4 +1,5 @@
 pub mod HeldWalk
+pub mod Padded
 pub mod Prefixes
 pub mod Variables
 pub mod Walk

@@ -4,7 +4,7 @@ use mathlib.Core.List.{List, [], _∷_, _++_, append-nil, head-eq-of-cons-eq, ni
 use Prim.Native.Nat.{ℕ, zero, suc, _+_, _<_}
 use native.Mathlib.Omega.{arith}
 use native.Mathlib.Numerals.{add-one}
-use lib.ListN.{drop, getD, length, set, take, take-append-drop}
+use lib.ListN.{drop, length, set, take, take-append-drop}
 use lib.Seq.{set-getD}
 use Rattle.tables.specs.Layout.{pad}
 use Rattle.tables.proofs.Columns.{pad-past, pad-set}

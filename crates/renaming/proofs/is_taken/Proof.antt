@@ -1,5 +1,4 @@
 -- `is_taken` meets its contract. Assumes nothing.
-use lib.Dec.{eqb}
 use borrow.Author.Tests.{le-ltb, lt-ltb}
 use Rattle.loops.proofs.Tests.{no-and, yes-and}
 use Rattle.renaming.proofs.is_taken.Statement.{statement}
