@@ -1,10 +1,9 @@
 -- What a table of literals holds, number by number, and the three bytes of a literal. Assumes nothing.
-use mathlib.Core.Path.{_≡_, refl, ap, ap₂, sym, _∙_}
-use mathlib.Core.List.{List, [], _∷_, _++_, append-nil, map}
+use mathlib.Core.Path.{_≡_, refl, ap, sym, _∙_}
+use mathlib.Core.List.{List, [], _∷_, _++_, map}
 use Prim.Native.Nat.{ℕ, _≤_, _<_}
 use native.Mathlib.Omega.{arith}
 use lib.ListN.{length, getD}
-use Rattle.laws.specs.All.{All}
 use Rattle.laws.specs.Lists.{concatMap}
 use Rattle.laws.proofs.Lists.{all-getD}
 use Rattle.guard.specs.Guard.{Literal, Literal.equal, Literal.is, Literal.isnt, Literal.unequal, Row, typeAt}
