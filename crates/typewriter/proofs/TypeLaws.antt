@@ -1,10 +1,9 @@
 -- What a table of types holds, number by number, and the bytes of types as those of their parts. Assumes nothing.
-use mathlib.Core.Path.{_≡_, refl, ap, sym, subst, _∙_}
+use mathlib.Core.Path.{_≡_, refl, ap, sym, _∙_}
 use mathlib.Core.List.{List, [], _∷_, _++_, map}
 use Prim.Native.Nat.{ℕ, _+_, _*_, _≤_, _<_}
 use native.Mathlib.Omega.{arith}
 use lib.ListN.{length, getD}
-use Rattle.laws.specs.All.{All}
 use Rattle.laws.specs.Lists.{concatMap}
 use Rattle.laws.proofs.Lists.{all-getD, all-weaken}
 use Rattle.guard.specs.Types.{Types, Variant, fieldsOf, variantsOf}
@@ -12,7 +11,7 @@ use Rattle.tables.specs.Layout.{flat}
 use Rattle.tables.specs.declared.TypeTable.{TypeTable}
 use Rattle.tables.proofs.Lookups.{arity-of, first-at, flat-at, offset-inside, offsetOf, sort-of, variants-at}
 use Rattle.tables.proofs.TypesBack.{many-is}
-use Rattle.heldparts.specs.Held.{HoldsTypes, VariantFits}
+use Rattle.heldparts.specs.Held.{HoldsTypes}
 use Rattle.encoding.specs.Encoding.{encoded}
 use Rattle.encoding.proofs.ReadBack.{one-byte}
 use Rattle.serialize.specs.Tokens.{Token, Token.plain, tokenBytes, typeTokens, variantTokens}
