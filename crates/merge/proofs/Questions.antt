@@ -1,11 +1,11 @@
 -- The questions asked of two guards, and of two files. Assumes nothing.
-use mathlib.Core.Path.{_≡_, refl, ap, ap₂, sym, subst, _∙_}
+use mathlib.Core.Path.{_≡_, refl, ap, ap₂, sym, _∙_}
 use mathlib.Core.Bool.{Bool, true, false, cond, _&&_}
-use mathlib.Core.List.{List, [], _++_, map}
+use mathlib.Core.List.{List, []}
 use Prim.Native.Nat.{ℕ, _+_, _≤_, _<_}
 use native.Mathlib.Omega.{arith}
 use lib.Dec.{leb}
-use lib.ListN.{length, length-append, length-map}
+use lib.ListN.{length}
 use borrow.Author.Tests.{le-leb, lt-leb}
 use Rattle.laws.proofs.Bools.{by-test}
 use Rattle.guard.specs.File.{file}
@@ -18,12 +18,13 @@ use Rattle.tables.proofs.AcceptedTotal.{accepted-total}
 use Rattle.reader.specs.declared.Tables.{Tables}
 use Rattle.reader.specs.Reader.{tablesAt}
 use Rattle.reader.proofs.TablesRead.{guard-tables, refused-file, taken-file}
-use Rattle.merged.specs.Merge.{asked, askedOfSame, hasRoom, merged, mergedBy, mergedFile, names, renamedLiteral, sameBytes, sameVariables, typePart}
+use Rattle.merged.specs.Merge.{asked, askedOfSame, hasRoom, merged, mergedBy, mergedFile, sameBytes, sameVariables, typePart}
 use Rattle.renaming.specs.declared.Names.{Names}
 use Rattle.renaming.specs.Names.{NamesOf}
-use Rattle.merge.specs.Merging.{BothOf, TablesOf, questionIn}
-use Rattle.merge.proofs.Held.{lines-are, names-are}
-use Rattle.merge.proofs.MergedBytes.{row-count}
+use Rattle.mergewriter.specs.Merging.{BothOf, TablesOf}
+use Rattle.mergewriter.proofs.Held.{names-are}
+use Rattle.mergewriter.proofs.MergedBytes.{lines-sum, row-count}
+use Rattle.merge.specs.Questions.{questionIn}
 
 -- ---- two guards with the same types
 
@@ -43,10 +44,6 @@ pub refused-by : (p : Parsed Guard) (q : ℕ) → q ≡ questionIn p → ¬ (q �
 refused-by (refused k) q e n = ap refused (sym e)
 refused-by (accepted g rest) q e n = absurd (n e)
 
-line-count : (g h : Guard) → length (merged g h .literals) ≡ length (g .literals) + length (h .literals)
-unfolding merged
-line-count g h = length-append (g .literals) (map (renamedLiteral (names g h)) (h .literals)) ∙ ap (λ (k : ℕ). length (g .literals) + k) (length-map (renamedLiteral (names g h)) (h .literals))
-
 module _ {first second : Tables} {g h : Guard} (b : BothOf first second g h) {n : Names} (are : NamesOf (first .rows) (second .rows) n) where
   variables-are : n .agree ≡ sameVariables g h
   unfolding sameVariables
@@ -55,12 +52,9 @@ module _ {first second : Tables} {g h : Guard} (b : BothOf first second g h) {n 
   abbrev lines : ℕ
   lines = first .literals .many + second .literals .many
 
-  lines-sum : lines ≡ length (merged g h .literals)
-  lines-sum = ap₂ _+_ (lines-are (b .one)) (lines-are (b .other)) ∙ sym (line-count g h)
-
   room-is : hasRoom base (merged g h) ≡ (leb (n .rows) 24 && leb lines 32)
   unfolding hasRoom
-  room-is = ap₂ (λ (r l : ℕ). leb r 24 && leb l 32) (sym (row-count b (names-are b are))) (sym lines-sum)
+  room-is = ap₂ (λ (r l : ℕ). leb r 24 && leb l 32) (sym (row-count b (names-are b are))) (sym (lines-sum b))
 
   asked-is : (a r l : Bool) → n .agree ≡ a → leb (n .rows) 24 ≡ r → leb lines 32 ≡ l → questionIn (askedOfSame base g h) ≡ questionIn (cond a (cond (r && l) (accepted (merged g h) []) (refused 4)) (refused 16))
   asked-is a r l ea er el = ap questionIn (by-tests g h a (r && l) (sym variables-are ∙ ea) (room-is ∙ ap₂ (λ (x y : Bool). x && y) er el))

@@ -1,4 +1,4 @@
--- Two guards by their tables, and what the parts of the merge say of each other. Assumes nothing: definitions.
+-- Two guards by their tables, and the bytes that are put of them. Assumes nothing: definitions.
 use mathlib.Core.Path.{_≡_}
 use mathlib.Core.List.{List, _∷_}
 use Prim.Native.Nat.{ℕ, _+_, _≤_}
@@ -6,7 +6,6 @@ use lib.ListN.{length}
 use Rattle.laws.specs.Lists.{concatMap}
 use Rattle.guard.specs.Guard.{Guard}
 use Rattle.guard.specs.Limits.{base, totalVariantLimit}
-use Rattle.guard.specs.Number.{Parsed, Parsed.accepted, Parsed.refused}
 use Rattle.guard.specs.WellFormed.{WellFormed}
 use Rattle.tables.specs.Layout.{flat}
 use Rattle.reader.specs.declared.Tables.{Tables}
@@ -14,11 +13,9 @@ use Rattle.reader.specs.Reader.{guardTables}
 use Rattle.serialize.specs.Tokens.{Token.plain, bytesOf, literalTokens, rowTokens, tokenBytes}
 use Rattle.bytebuffer.specs.declared.End.{End}
 use Rattle.bytebuffer.specs.Puts.{Puts}
-use Rattle.filewriter.specs.declared.FileWritten.{FileWritten}
-use Rattle.filewriter.specs.Writer.{answerTo, leftBy}
 use Rattle.renaming.specs.declared.Names.{Names}
 use Rattle.renaming.specs.Names.{NamesOf}
-use Rattle.merged.specs.Merge.{askedOfSame, merged}
+use Rattle.merged.specs.Merge.{merged}
 
 -- a guard that a reader took, and its tables
 pub record TablesOf (tables : Tables) (g : Guard) : Type 0 where
@@ -61,16 +58,3 @@ pub record PutsAllLiterals (first second : Tables) (n : Names) (out : List ℕ) 
 
 pub record PutsMerged (first second : Tables) (n : Names) (out : List ℕ) (end : End) (out′ : List ℕ) : Type 0 where
   pub puts : (g h : Guard) → BothOf first second g h → Puts (bytesOf (merged g h)) out 0 end out′
-
--- ---- answers
-
--- the question that got a no, 0 if none did
-abbrev pub questionIn : Parsed Guard → ℕ
-questionIn (refused q) = q
-questionIn (accepted g rest) = 0
-
-pub record QuestionOf (first second : Tables) (n : Names) (q : ℕ) : Type 0 where
-  pub is : (g h : Guard) → BothOf first second g h → NamesOf (first .rows) (second .rows) n → q ≡ questionIn (askedOfSame base g h)
-
-pub record AnswersBoth (first second : Tables) (out : List ℕ) (r : FileWritten) (out′ : List ℕ) : Type 0 where
-  pub answers : (g h : Guard) → BothOf first second g h → (r ≡ answerTo (askedOfSame base g h) (length out)) × (out′ ≡ leftBy (askedOfSame base g h) (length out))

@@ -14,7 +14,7 @@ use Rattle.heldparts.specs.Held.{HoldsLiterals, HoldsRows, HoldsTypes}
 use Rattle.heldparts.proofs.FromGuard.{holds-literals, holds-rows, holds-types}
 use Rattle.renaming.specs.declared.Names.{Names}
 use Rattle.renaming.specs.Names.{AreNames, NamesOf}
-use Rattle.merge.specs.Merging.{BothOf, TablesOf}
+use Rattle.mergewriter.specs.Merging.{BothOf, TablesOf}
 
 module _ {t : Tables} {g : Guard} (k : TablesOf t g) where
   pub types-held : HoldsTypes (t .types) (g .types)
