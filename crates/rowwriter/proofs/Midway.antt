@@ -13,10 +13,11 @@ use Rattle.heldparts.specs.Held.{HoldsRows, HoldsTypes}
 use Rattle.bytebuffer.specs.declared.End.{End}
 use Rattle.bytebuffer.specs.Puts.{Puts}
 use Rattle.bytebuffer.proofs.PutLaws.{ends-within, nothing, same-bytes}
-use Rattle.rowwriter.specs.Rows.{PutsRow, PutsRows, SomeRows, upTo}
+use Rattle.rowterms.specs.Rows.{PutsRow, SomeRows, upTo}
+use Rattle.rowterms.proofs.LoopLaws.{full-puts, next-puts, skip-puts}
+use Rattle.rowterms.proofs.RowLaws.{row-count}
+use Rattle.rowwriter.specs.Kept.{PutsRows}
 use Rattle.rowwriter.proofs.KeptLaws.{bytesAt, kept-bytes, put-at, skipped-at}
-use Rattle.rowwriter.proofs.LoopLaws.{full-puts, next-puts, skip-puts}
-use Rattle.rowwriter.proofs.RowLaws.{in-rows}
 
 module _ (types : TypeTable) (rows : RowTable) (names skipped out : List ℕ) (at : ℕ) where
   -- for all types and rows that the tables may hold
@@ -34,7 +35,7 @@ module _ {types : TypeTable} {rows : RowTable} {names skipped out : List ℕ} {a
   pub finish : rows .many ≤ r → PutsRows types rows names skipped out at (record { fits = true; at = next }) out′
   finish h =
       record {
-        puts = λ ts rs t s. same-bytes (m .puts ts rs t s) (ap (upTo (bytesAt names skipped rs)) (let e : r ≡ length rs = omega (arith, m .inside, in-rows s) in e) ∙ kept-bytes names skipped rs);
+        puts = λ ts rs t s. same-bytes (m .puts ts rs t s) (ap (upTo (bytesAt names skipped rs)) (let e : r ≡ length rs = omega (arith, m .inside, row-count s) in e) ∙ kept-bytes names skipped rs);
       }
 
   module _ (h : r < rows .many) where
@@ -69,5 +70,5 @@ module _ {types : TypeTable} {rows : RowTable} {names skipped out : List ℕ} {a
       pub too-long : end .fits ≡ false → PutsRows types rows names skipped out at end out″
       too-long e =
           record {
-            puts = λ ts rs t s. same-bytes (full-puts (bytesAt names skipped rs) r (m .puts ts rs t s) (row-put ts rs t s) (length rs) (omega (arith, in-rows s)) e) (kept-bytes names skipped rs);
+            puts = λ ts rs t s. same-bytes (full-puts (bytesAt names skipped rs) r (m .puts ts rs t s) (row-put ts rs t s) (length rs) (omega (arith, row-count s)) e) (kept-bytes names skipped rs);
           }

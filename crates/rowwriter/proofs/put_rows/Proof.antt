@@ -7,8 +7,8 @@ use lib.ListN.{length}
 use borrow.Author.Needs.{needs}
 use borrow.Author.Tests.{not-false, not-true}
 use Rattle.laws.proofs.Bools.{either}
+use Rattle.rowterms.proofs.RowLaws.{some-place}
 use Rattle.rowwriter.proofs.Midway.{Midway, begin, finish, further, pass, same-long, too-long}
-use Rattle.rowwriter.proofs.RowLaws.{some-place}
 use Rattle.rowwriter.proofs.put_rows.Statement.{statement}
 use Rattle.rowwriter.proofs.put_rows.Tie as tie
 

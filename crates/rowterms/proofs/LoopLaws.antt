@@ -10,7 +10,7 @@ use Rattle.laws.specs.Lists.{concatMap}
 use Rattle.bytebuffer.specs.declared.End.{End}
 use Rattle.bytebuffer.specs.Puts.{Puts}
 use Rattle.bytebuffer.proofs.PutLaws.{and-then, same-bytes, still-full}
-use Rattle.rowwriter.specs.Rows.{upTo}
+use Rattle.rowterms.specs.Rows.{upTo}
 
 -- ---- the bytes
 

@@ -2,9 +2,9 @@
 use borrow.Author.Needs.{needs}
 use borrow.Author.Tests.{not-false, not-true}
 use Rattle.bytebuffer.proofs.PutLaws.{ends-within}
-use Rattle.rowwriter.proofs.RowLaws.{built-full, built-parts, built-put, some-place}
-use Rattle.rowwriter.proofs.put_built.Statement.{statement}
-use Rattle.rowwriter.proofs.put_built.Tie as tie
+use Rattle.rowterms.proofs.RowLaws.{built-full, built-parts, built-put, some-place}
+use Rattle.rowterms.proofs.put_built.Statement.{statement}
+use Rattle.rowterms.proofs.put_built.Tie as tie
 
 returns : tie.Need-returns
 returns c =

@@ -2,9 +2,9 @@
 use borrow.Author.Needs.{needs}
 use borrow.Author.Tests.{not-false, not-true}
 use Rattle.bytebuffer.proofs.PutLaws.{ends-within}
-use Rattle.rowwriter.proofs.ByteLaws.{field-put, kind-full, term-full}
-use Rattle.rowwriter.proofs.put_field.Statement.{statement}
-use Rattle.rowwriter.proofs.put_field.Tie as tie
+use Rattle.rowterms.proofs.ByteLaws.{field-put, kind-full, term-full}
+use Rattle.rowterms.proofs.put_field.Statement.{statement}
+use Rattle.rowterms.proofs.put_field.Tie as tie
 
 returns : tie.Need-returns
 returns c =

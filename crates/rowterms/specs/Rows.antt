@@ -1,6 +1,6 @@
--- Rows of a table written as bytes, with the terms that they name renumbered. Assumes nothing: definitions.
+-- One row of a table as bytes, with the terms that it names renumbered. Assumes nothing: definitions.
 use mathlib.Core.Path.{_≡_}
-use mathlib.Core.List.{List, [], _∷_, _++_, map}
+use mathlib.Core.List.{List, [], _++_}
 use Prim.Native.Nat.{ℕ, zero, suc, _+_, _*_, _≤_, _<_}
 use lib.ListN.{length, getD}
 use Rattle.laws.specs.Lists.{concatMap}
@@ -20,13 +20,6 @@ use Rattle.bytebuffer.specs.Puts.{Puts}
 abbrev pub upTo : (ℕ → List ℕ) → ℕ → List ℕ
 upTo f zero = []
 upTo f (suc n) = upTo f n ++ f n
-
--- the rows at whose place the other list has 0
-abbrev pub keptRows : List ℕ → List Row → List Row
-keptRows [] rs = rs
-keptRows (s ∷ ss) [] = []
-keptRows (zero ∷ ss) (r ∷ rs) = r ∷ keptRows ss rs
-keptRows (suc s ∷ ss) (r ∷ rs) = keptRows ss rs
 
 -- a row with the terms that it names renumbered, as bytes
 abbrev pub rowBytes : List ℕ → Row → List ℕ
@@ -64,10 +57,3 @@ pub record PartCount (types : TypeTable) (rows : RowTable) (r many : ℕ) : Type
 -- the bytes of row r
 pub record PutsRow (types : TypeTable) (rows : RowTable) (names : List ℕ) (r : ℕ) (out : List ℕ) (at : ℕ) (end : End) (out′ : List ℕ) : Type 0 where
   pub puts : (ts : Types) (rs : List Row) → HoldsTypes types ts → HoldsRows rows ts rs → Puts (rowBytes names (rowAt rs r)) out at end out′
-
--- ---- all rows
-
--- the bytes of the rows that aren't skipped
-pub record PutsRows (types : TypeTable) (rows : RowTable) (names skipped : List ℕ) (out : List ℕ) (at : ℕ) (end : End) (out′ : List ℕ) : Type 0 where
-  pub puts : (ts : Types) (rs : List Row) → HoldsTypes types ts → HoldsRows rows ts rs
-      → Puts (concatMap tokenBytes (concatMap rowTokens (map (renamedRow names) (keptRows skipped rs)))) out at end out′
