@@ -8,7 +8,6 @@ use lib.ListN.{getD}
 use mir.Syntax.{w64}
 use mir.Val.{SFits}
 use mir.Facts.{toZ-ofZ}
-use borrow.Author.Needs.{needs}
 use Rattle.guard.specs.Guard.{Row.constant}
 use Rattle.bytebuffer.proofs.PutLaws.{same-bytes}
 use Rattle.rowterms.specs.Rows.{rowBytes}
@@ -61,23 +60,35 @@ returns-4 c =
     let s = e .before .before .before .before .before .before in
     record { puts = λ ts rs t h. same-bytes (p .put-field .ensures) (field-bytes t (entry t h (s .args .r) (s .pre .1 .0)) (e .before .before .if1 .left) (e .before .if2 .left) (e .if3 .left) (s .args .names .now)) }
 
+put-built-requires : tie.Need-put-built-requires
+put-built-requires c κs =
+    let e = c .before in
+    let s = e .before .before .before .before .before .before in
+    (record { some = s .pre .0; inside = s .pre .1 .0; built = e .if3 .taken }, s .pre .1 .1)
+
+same-length-3 : tie.Need-same-length-3
+same-length-3 c =
+    let p = c .before .before in
+    let b = p .before .before .before .before .before .before .before .before .pre .0 in
+    p .put-built .ensures .puts (b .ts) (b .rs) (b .holds-types) (b .holds-rows) .long
+
 pub put-row-spec : {M : Type 1} → statement M
 put-row-spec =
     tie.close
     (tie.spec
     (λ c. place (c .before))
     (λ c. place (c .before .before))
-    (λ c κs. search needs)
-    (λ c. search needs)
+    (λ c κs. c .before .before .before .before .before .pre .1 .1)
+    (λ c. c .before .before .put-two .ensures .long)
     returns
     (λ c. omega (arith, place (c .before .before .before .before .before)))
     (λ c. place (c .before .before .before .before .before))
     put-constant-requires
-    (λ c. search needs)
+    (λ c. c .before .before .put-constant .ensures .long)
     returns-2
-    (λ c κs. search needs)
-    (λ c. search needs)
-    (λ c. search needs)
+    put-built-requires
+    same-length-3
+    (λ c. c .before .before .put-built .ensures)
     (λ c. omega (arith, place (c .before .before .before .before .before .before)))
     (λ c. omega (arith, place (c .before .before .before .before .before .before)))
     (λ c. place (c .before .before .before .before .before .before .before))
@@ -85,5 +96,5 @@ put-row-spec =
     (λ c. omega (arith, place (c .before .before .before .before .before .before .before .before)))
     (λ c. omega (arith, place (c .before .before .before .before .before .before .before .before)))
     put-field-requires
-    (λ c. search needs)
+    (λ c. c .before .before .put-field .ensures .long)
     returns-4)
