@@ -18,7 +18,14 @@ fn put_small(out: &mut [u8], at: usize, n: u8) -> End
 }
 
 // The parts of a built row.
-fn put_parts(rows: RowTable, names: &[u8; 24], r: usize, many: usize, out: &mut [u8], at: usize) -> End
+fn put_parts(
+    rows: RowTable,
+    names: &[u8; 24],
+    r: usize,
+    many: usize,
+    out: &mut [u8],
+    at: usize,
+) -> End
     requires { ⌜ PartsInside rows r many ⌝ }
     requires { ⌜ at ≤ length (now out) ⌝ }
     ensures { λ e. ⌜ Puts (upTo (partBytes (now (names .entry)) rows r) many) (now (out .entry)) at e (now (out .exit)) ⌝ }
@@ -53,7 +60,14 @@ fn part_count(types: TypeTable, rows: RowTable, r: usize) -> usize
 }
 
 // Row `r`, a built one.
-pub fn put_built(types: TypeTable, rows: RowTable, names: &[u8; 24], r: usize, out: &mut [u8], at: usize) -> End
+pub fn put_built(
+    types: TypeTable,
+    rows: RowTable,
+    names: &[u8; 24],
+    r: usize,
+    out: &mut [u8],
+    at: usize,
+) -> End
     requires { ⌜ BuiltRow types rows r ⌝ }
     requires { ⌜ at ≤ length (now out) ⌝ }
     ensures { λ e. ⌜ PutsRow types rows (now (names .entry)) r (now (out .entry)) at e (now (out .exit)) ⌝ }

@@ -102,8 +102,11 @@ module _ {types : TypeTable} {rows : RowTable} {ts : Types} {rs : List Row} (t :
           omega (arith, x .part 1 (omega arith), position, few-fields t (field-is .0) (rowVariant row) variant),
         )
 
-    pub field-bytes : (names : List ℕ) → rowBytes names (field 0 (getD (rows .parts) (3 * r) 0) (getD (rows .variants) r 0) (getD (rows .parts) (3 * r + 1) 0)) ≡ rowBytes names (rowAt rs r)
+    field-bytes : (names : List ℕ) → rowBytes names (field 0 (getD (rows .parts) (3 * r) 0) (getD (rows .variants) r 0) (getD (rows .parts) (3 * r + 1) 0)) ≡ rowBytes names (rowAt rs r)
     field-bytes names =
         ap₂ (λ (a v : ℕ). rowBytes names (field 0 a v (getD (rows .parts) (3 * r + 1) 0))) term-is (x .variant)
         ∙ ap (λ (p : ℕ). rowBytes names (field 0 (getD (rowParts row) 0 0) (rowVariant row) p)) (x .part 1 (omega arith)) ∙ ap (rowBytes names) (sym (field-is .1))
 
+    pub field-puts : (names : List ℕ) {out : List ℕ} {at : ℕ} {end : End} {out′ : List ℕ}
+        → Puts (rowBytes names (field 0 (getD (rows .parts) (3 * r) 0) (getD (rows .variants) r 0) (getD (rows .parts) (3 * r + 1) 0))) out at end out′ → Puts (rowBytes names (rowAt rs r)) out at end out′
+    field-puts names p = same-bytes p (field-bytes names)

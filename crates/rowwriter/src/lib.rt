@@ -25,7 +25,14 @@ fn put_constant(t: u8, x: i64, out: &mut [u8], at: usize) -> End
 }
 
 // Row `r`, by its kind.
-fn put_row(types: TypeTable, rows: RowTable, names: &[u8; 24], r: usize, out: &mut [u8], at: usize) -> End
+fn put_row(
+    types: TypeTable,
+    rows: RowTable,
+    names: &[u8; 24],
+    r: usize,
+    out: &mut [u8],
+    at: usize,
+) -> End
     requires { ⌜ SomeRows types rows ⌝ }
     requires { ⌜ r < rows .many ⌝ }
     requires { ⌜ at ≤ length (now out) ⌝ }
@@ -50,7 +57,14 @@ fn put_row(types: TypeTable, rows: RowTable, names: &[u8; 24], r: usize, out: &m
 }
 
 // The rows whose entry in `skipped` is 0, in order, each with the terms that it names renumbered by `names`.
-pub fn put_rows(types: TypeTable, rows: RowTable, names: &[u8; 24], skipped: &[u8; 24], out: &mut [u8], at: usize) -> End
+pub fn put_rows(
+    types: TypeTable,
+    rows: RowTable,
+    names: &[u8; 24],
+    skipped: &[u8; 24],
+    out: &mut [u8],
+    at: usize,
+) -> End
     requires { ⌜ SomeRows types rows ⌝ }
     requires { ⌜ at ≤ length (now out) ⌝ }
     ensures { λ e. ⌜ PutsRows types rows (now (names .entry)) (now (skipped .entry)) (now (out .entry)) at e (now (out .exit)) ⌝ }

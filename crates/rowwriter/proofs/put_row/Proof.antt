@@ -12,7 +12,7 @@ use Rattle.guard.specs.Guard.{Row.constant}
 use Rattle.bytebuffer.proofs.PutLaws.{same-bytes}
 use Rattle.rowterms.specs.Rows.{rowBytes}
 use Rattle.rowterms.proofs.RowLaws.{Entry, entry, some-place}
-use Rattle.rowwriter.proofs.KindLaws.{constant-bytes, field-bytes, field-small, type-small, variable-bytes}
+use Rattle.rowwriter.proofs.KindLaws.{constant-bytes, field-puts, field-small, type-small, variable-bytes}
 use Rattle.rowwriter.proofs.put_row.Statement.{statement}
 use Rattle.rowwriter.proofs.put_row.Tie as tie
 
@@ -58,7 +58,7 @@ returns-4 c =
     let p = c .before .before in
     let e = p .before .before .before .before .before in
     let s = e .before .before .before .before .before .before in
-    record { puts = λ ts rs t h. same-bytes (p .put-field .ensures) (field-bytes t (entry t h (s .args .r) (s .pre .1 .0)) (e .before .before .if1 .left) (e .before .if2 .left) (e .if3 .left) (s .args .names .now)) }
+    record { puts = λ ts rs t h. field-puts t (entry t h (s .args .r) (s .pre .1 .0)) (e .before .before .if1 .left) (e .before .if2 .left) (e .if3 .left) (s .args .names .now) (p .put-field .ensures) }
 
 put-built-requires : tie.Need-put-built-requires
 put-built-requires c κs =
