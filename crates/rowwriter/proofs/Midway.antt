@@ -38,6 +38,9 @@ module _ {types : TypeTable} {rows : RowTable} {names skipped out : List ℕ} {a
         puts = λ ts rs t s. same-bytes (m .puts ts rs t s) (ap (upTo (bytesAt names skipped rs)) (let e : r ≡ length rs = omega (arith, m .inside, row-count s) in e) ∙ kept-bytes names skipped rs);
       }
 
+  pub same-long : SomeRows types rows → {end : End} {out″ : List ℕ} → PutsRow types rows names r out′ next end out″ → length out″ ≡ length out
+  same-long b p = p .puts (b .ts) (b .rs) (b .holds-types) (b .holds-rows) .long ∙ m .long
+
   module _ (h : r < rows .many) where
     -- row r is skipped
     pub pass : ¬ (getD skipped r 0 ≡ 0) → Midway types rows names skipped out at (r + 1) next out′
@@ -49,10 +52,7 @@ module _ {types : TypeTable} {rows : RowTable} {names skipped out : List ℕ} {a
           puts = λ ts rs t s. skip-puts (bytesAt names skipped rs) r (m .puts ts rs t s) (skipped-at names skipped rs r k);
         }
 
-    module _ (k : getD skipped r 0 ≡ 0) {end : End} {out″ : List ℕ} (p : PutsRow types rows names r out′ next end out″) where
-      pub same-long : SomeRows types rows → length out″ ≡ length out
-      same-long b = p .puts (b .ts) (b .rs) (b .holds-types) (b .holds-rows) .long ∙ m .long
-
+    module _ {end : End} {out″ : List ℕ} (p : PutsRow types rows names r out′ next end out″) (k : getD skipped r 0 ≡ 0) where
       row-put : (ts : Types) (rs : List Row) → HoldsTypes types ts → HoldsRows rows ts rs → Puts (bytesAt names skipped rs r) out′ next end out″
       row-put ts rs t s = same-bytes (p .puts ts rs t s) (put-at names skipped rs r k)
 
@@ -61,7 +61,7 @@ module _ {types : TypeTable} {rows : RowTable} {names skipped out : List ℕ} {a
       further b e =
           record {
             inside = omega arith;
-            long = same-long b;
+            long = same-long b p;
             room = ends-within (p .puts (b .ts) (b .rs) (b .holds-types) (b .holds-rows)) e;
             puts = λ ts rs t s. next-puts (bytesAt names skipped rs) r (m .puts ts rs t s) (row-put ts rs t s) e;
           }
