@@ -1,5 +1,5 @@
 -- Rows that are skipped and rows that aren't, one after the other. Assumes nothing.
-use mathlib.Core.Path.{_≡_, refl, ap, sym, subst, _∙_}
+use mathlib.Core.Path.{_≡_, refl, ap, sym, _∙_}
 use mathlib.Core.List.{List, [], _∷_, _++_, map}
 use Prim.Native.Nat.{ℕ, zero, suc}
 use lib.ListN.{length, getD}
@@ -8,8 +8,8 @@ use Rattle.guard.specs.Guard.{Row, rowAt}
 use Rattle.serialize.specs.Tokens.{rowTokens, tokenBytes}
 use Rattle.serialize.proofs.Copying.{concatMap-append}
 use Rattle.merged.specs.Merge.{keptRows, renamedRow}
-use Rattle.rowwriter.specs.Rows.{rowBytes, upTo}
-use Rattle.rowwriter.proofs.LoopLaws.{from-front}
+use Rattle.rowterms.specs.Rows.{rowBytes, upTo}
+use Rattle.rowterms.proofs.LoopLaws.{from-front}
 
 -- nothing where the entry isn't 0
 abbrev unless : ℕ → List ℕ → List ℕ

@@ -1,5 +1,3 @@
-pub mod LoopLaws
-pub mod ByteLaws
-pub mod RowLaws
+pub mod KindLaws
 pub mod KeptLaws
 pub mod Midway

@@ -13,10 +13,11 @@ use Rattle.heldparts.specs.Held.{HoldsRows, HoldsTypes}
 use Rattle.bytebuffer.specs.declared.End.{End}
 use Rattle.bytebuffer.specs.Puts.{Puts}
 use Rattle.bytebuffer.proofs.PutLaws.{ends-within, nothing, same-bytes}
-use Rattle.rowwriter.specs.Rows.{PutsRow, PutsRows, SomeRows, upTo}
+use Rattle.rowterms.specs.Rows.{PutsRow, SomeRows, upTo}
+use Rattle.rowterms.proofs.LoopLaws.{full-puts, next-puts, skip-puts}
+use Rattle.rowterms.proofs.RowLaws.{row-count}
+use Rattle.rowwriter.specs.Kept.{PutsRows}
 use Rattle.rowwriter.proofs.KeptLaws.{bytesAt, kept-bytes, put-at, skipped-at}
-use Rattle.rowwriter.proofs.LoopLaws.{full-puts, next-puts, skip-puts}
-use Rattle.rowwriter.proofs.RowLaws.{in-rows}
 
 module _ (types : TypeTable) (rows : RowTable) (names skipped out : List ℕ) (at : ℕ) where
   -- for all types and rows that the tables may hold
@@ -34,8 +35,11 @@ module _ {types : TypeTable} {rows : RowTable} {names skipped out : List ℕ} {a
   pub finish : rows .many ≤ r → PutsRows types rows names skipped out at (record { fits = true; at = next }) out′
   finish h =
       record {
-        puts = λ ts rs t s. same-bytes (m .puts ts rs t s) (ap (upTo (bytesAt names skipped rs)) (let e : r ≡ length rs = omega (arith, m .inside, in-rows s) in e) ∙ kept-bytes names skipped rs);
+        puts = λ ts rs t s. same-bytes (m .puts ts rs t s) (ap (upTo (bytesAt names skipped rs)) (let e : r ≡ length rs = omega (arith, m .inside, row-count s) in e) ∙ kept-bytes names skipped rs);
       }
+
+  pub same-long : SomeRows types rows → {end : End} {out″ : List ℕ} → PutsRow types rows names r out′ next end out″ → length out″ ≡ length out
+  same-long b p = p .puts (b .ts) (b .rs) (b .holds-types) (b .holds-rows) .long ∙ m .long
 
   module _ (h : r < rows .many) where
     -- row r is skipped
@@ -48,10 +52,7 @@ module _ {types : TypeTable} {rows : RowTable} {names skipped out : List ℕ} {a
           puts = λ ts rs t s. skip-puts (bytesAt names skipped rs) r (m .puts ts rs t s) (skipped-at names skipped rs r k);
         }
 
-    module _ (k : getD skipped r 0 ≡ 0) {end : End} {out″ : List ℕ} (p : PutsRow types rows names r out′ next end out″) where
-      pub same-long : SomeRows types rows → length out″ ≡ length out
-      same-long b = p .puts (b .ts) (b .rs) (b .holds-types) (b .holds-rows) .long ∙ m .long
-
+    module _ {end : End} {out″ : List ℕ} (p : PutsRow types rows names r out′ next end out″) (k : getD skipped r 0 ≡ 0) where
       row-put : (ts : Types) (rs : List Row) → HoldsTypes types ts → HoldsRows rows ts rs → Puts (bytesAt names skipped rs r) out′ next end out″
       row-put ts rs t s = same-bytes (p .puts ts rs t s) (put-at names skipped rs r k)
 
@@ -60,7 +61,7 @@ module _ {types : TypeTable} {rows : RowTable} {names skipped out : List ℕ} {a
       further b e =
           record {
             inside = omega arith;
-            long = same-long b;
+            long = same-long b p;
             room = ends-within (p .puts (b .ts) (b .rs) (b .holds-types) (b .holds-rows)) e;
             puts = λ ts rs t s. next-puts (bytesAt names skipped rs) r (m .puts ts rs t s) (row-put ts rs t s) e;
           }
@@ -69,5 +70,5 @@ module _ {types : TypeTable} {rows : RowTable} {names skipped out : List ℕ} {a
       pub too-long : end .fits ≡ false → PutsRows types rows names skipped out at end out″
       too-long e =
           record {
-            puts = λ ts rs t s. same-bytes (full-puts (bytesAt names skipped rs) r (m .puts ts rs t s) (row-put ts rs t s) (length rs) (omega (arith, in-rows s)) e) (kept-bytes names skipped rs);
+            puts = λ ts rs t s. same-bytes (full-puts (bytesAt names skipped rs) r (m .puts ts rs t s) (row-put ts rs t s) (length rs) (omega (arith, row-count s)) e) (kept-bytes names skipped rs);
           }

@@ -5,7 +5,7 @@ use borrow.Author.Needs.{needs}
 use borrow.Author.Tests.{not-false, not-true}
 use Rattle.guard.specs.Number.{foldSigned}
 use Rattle.bytebuffer.proofs.PutLaws.{ends-within}
-use Rattle.rowwriter.proofs.ByteLaws.{constant-full, constant-put}
+use Rattle.rowwriter.proofs.KindLaws.{constant-full, constant-put}
 use Rattle.rowwriter.proofs.put_constant.Statement.{statement}
 use Rattle.rowwriter.proofs.put_constant.Tie as tie
 

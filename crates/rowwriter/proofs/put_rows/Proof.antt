@@ -3,12 +3,11 @@ use mathlib.Core.Path.{_≡_, sym, subst}
 use mathlib.Core.List.{List}
 use Prim.Native.Nat.{ℕ, _+_, _-_}
 use native.Mathlib.Omega.{arith}
-use lib.ListN.{length}
 use borrow.Author.Needs.{needs}
 use borrow.Author.Tests.{not-false, not-true}
 use Rattle.laws.proofs.Bools.{either}
+use Rattle.rowterms.proofs.RowLaws.{some-place}
 use Rattle.rowwriter.proofs.Midway.{Midway, begin, finish, further, pass, same-long, too-long}
-use Rattle.rowwriter.proofs.RowLaws.{some-place}
 use Rattle.rowwriter.proofs.put_rows.Statement.{statement}
 use Rattle.rowwriter.proofs.put_rows.Tie as tie
 
@@ -37,17 +36,15 @@ put-row-requires c κs =
 same-length : tie.Need-same-length Inv-loop μ-loop
 same-length c =
     let p = c .before .before .before .before in
-    let k = p .before .before in
-    let w = k .before .before in
-    let l = w .before .before in
-    same-long (l .loop .inv) (w .if1 .taken) (k .if2 .taken) (p .put-row .ensures) (l .before .before .pre .0)
+    let l = p .before .before .before .before .before .before in
+    same-long (l .loop .inv) (l .before .before .pre .0) (p .put-row .ensures)
 
 returns : tie.Need-returns Inv-loop μ-loop
 returns c =
     let p = c .before .before .before .before in
     let k = p .before .before in
     let w = k .before .before in
-    too-long (w .before .before .loop .inv) (w .if1 .taken) (k .if2 .taken) (p .put-row .ensures) (not-true _ (c .if3 .taken))
+    too-long (w .before .before .loop .inv) (w .if1 .taken) (p .put-row .ensures) (k .if2 .taken) (not-true _ (c .if3 .taken))
 
 add-r : tie.Need-add-r Inv-loop μ-loop
 add-r c = search needs
@@ -62,7 +59,7 @@ loop-again c =
     let a = l .before .before .args in
     let Then : ℕ → List ℕ → Type 0 = Midway (a .types) (a .rows) (a .names .now) (a .skipped .now) (a .out .now) (a .at) (l .loop .r + 1) in
     either
-    (λ x. moved Then (x .8) (x .7) (further (l .loop .inv) (w .if1 .taken) (x .0 .taken) (x .2 .ensures) (l .before .before .pre .0) (not-false _ (x .6 .left))))
+    (λ x. moved Then (x .8) (x .7) (further (l .loop .inv) (w .if1 .taken) (x .2 .ensures) (x .0 .taken) (l .before .before .pre .0) (not-false _ (x .6 .left))))
     (λ x. moved Then (x .2) (x .1) (pass (l .loop .inv) (w .if1 .taken) (x .0 .left)))
     (c .if2 .came)
 

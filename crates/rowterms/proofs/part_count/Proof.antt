@@ -1,12 +1,12 @@
 -- `part_count` meets its contract. Assumes nothing.
 use native.Mathlib.Omega.{arith}
 use borrow.Author.Needs.{needs}
-use Rattle.rowwriter.proofs.RowLaws.{arity-is, built-place, built-sort, some-place}
-use Rattle.rowwriter.proofs.part_count.Statement.{statement}
-use Rattle.rowwriter.proofs.part_count.Tie as tie
+use Rattle.rowterms.proofs.RowLaws.{arity-is, built-place, built-sort, entry, some-place}
+use Rattle.rowterms.proofs.part_count.Statement.{statement}
+use Rattle.rowterms.proofs.part_count.Tie as tie
 
 returns : tie.Need-returns
-returns c = let s = c .before .before .before .before in record { is = λ ts rs t h. arity-is t h (s .args .r) (s .pre .inside) (s .pre .built) }
+returns c = let s = c .before .before .before .before in record { is = λ ts rs t h. arity-is t (entry t h (s .args .r) (s .pre .inside)) (s .pre .built) }
 
 pub part-count-spec : {M : Type 1} → statement M
 part-count-spec =

@@ -1,10 +1,10 @@
 -- `put_field`: kind, term, and two numbers behind them. Assumes nothing.
-use borrow.Author.Needs.{needs}
+use mathlib.Core.Path.{_∙_}
 use borrow.Author.Tests.{not-false, not-true}
 use Rattle.bytebuffer.proofs.PutLaws.{ends-within}
-use Rattle.rowwriter.proofs.ByteLaws.{field-put, kind-full, term-full}
-use Rattle.rowwriter.proofs.put_field.Statement.{statement}
-use Rattle.rowwriter.proofs.put_field.Tie as tie
+use Rattle.rowterms.proofs.ByteLaws.{field-put, kind-full, term-full}
+use Rattle.rowterms.proofs.put_field.Statement.{statement}
+use Rattle.rowterms.proofs.put_field.Tie as tie
 
 returns : tie.Need-returns
 returns c =
@@ -40,17 +40,28 @@ returns-3 c =
     let s = k .before .before .before in
     field-put (s .args .names .now) (s .args .a) (s .args .v) (s .args .p) (s .pre .0 .1) (s .pre .0 .2) (k .put-small .ensures) (not-false _ (e .if1 .left)) (t .put-small2 .ensures) (not-false _ (f .if2 .left)) (w .put-two .ensures)
 
+same-length-2 : tie.Need-same-length-2
+same-length-2 c =
+    let t = c .before .before .before .before in
+    t .put-small2 .ensures .long ∙ t .before .before .before .before .before .before .before .put-small .ensures .long
+
+same-length-3 : tie.Need-same-length-3
+same-length-3 c =
+    let w = c .before .before in
+    let t = w .before .before .before .before .before .before in
+    w .put-two .ensures .long ∙ (t .put-small2 .ensures .long ∙ t .before .before .before .before .before .before .before .put-small .ensures .long)
+
 pub put-field-spec : {M : Type 1} → statement M
 put-field-spec =
     tie.close
     (tie.spec
-    (λ c κs. search needs)
-    (λ c. search needs)
+    (λ c κs. c .before .before .pre .1)
+    (λ c. c .before .before .before .before .put-small .ensures .long)
     returns
-    (λ c. search needs)
+    (λ c. c .before .before .before .before .before .before .before .pre .0 .0)
     put-small-requires-2
-    (λ c. search needs)
+    same-length-2
     returns-2
     put-two-requires
-    (λ c. search needs)
+    same-length-3
     returns-3)

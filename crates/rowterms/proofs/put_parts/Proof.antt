@@ -4,20 +4,15 @@ use mathlib.Core.Bool.{true}
 use mathlib.Core.List.{List}
 use Prim.Native.Nat.{ℕ, _-_, _≤_}
 use native.Mathlib.Omega.{arith}
-use lib.ListN.{getD, length}
+use lib.ListN.{length}
 use borrow.Author.Needs.{needs}
 use borrow.Author.Tests.{not-false, not-true}
-use Rattle.encoding.proofs.ReadBack.{same-encoded}
-use Rattle.merged.specs.Merge.{named}
 use Rattle.bytebuffer.specs.Puts.{Puts}
 use Rattle.bytebuffer.proofs.PutLaws.{ends-within, nothing, same-bytes}
-use Rattle.rowwriter.specs.Rows.{partBytes, upTo}
-use Rattle.rowwriter.proofs.LoopLaws.{full-puts, next-puts}
-use Rattle.rowwriter.proofs.put_parts.Statement.{statement}
-use Rattle.rowwriter.proofs.put_parts.Tie as tie
-use Rattle.rowwriter.proofs.put_parts.Reads as reads
-use Rattle.rowwriter.proofs.put_parts.Lts as lts
-use Rattle.numberwriter.proofs.put_number.Reads as put-small-reads
+use Rattle.rowterms.specs.Rows.{partBytes, upTo}
+use Rattle.rowterms.proofs.LoopLaws.{full-puts, next-puts}
+use Rattle.rowterms.proofs.put_parts.Statement.{statement}
+use Rattle.rowterms.proofs.put_parts.Tie as tie
 
 abbrev Inv-loop : tie.InvT-loop
 Inv-loop names r many out₀ at rows next₀ i₀ out next i =
@@ -30,54 +25,27 @@ abbrev μ-loop : tie.MeasureT-loop
 abbrev bytes : tie.At-loop Inv-loop μ-loop → ℕ → List ℕ
 bytes c = let a = c .before .before .args in partBytes (a .names .now) (a .t1) (a .r)
 
--- src/lib.rt:21:5
 loop-holds : tie.Need-loop-holds Inv-loop μ-loop
 loop-holds c = (omega arith, refl, c .before .pre .1, nothing (c .before .pre .1))
 
--- src/lib.rt:22:31
-mul-part : tie.Need-mul-part Inv-loop μ-loop
-mul-part c = search needs
-
--- src/lib.rt:22:31
-add-part : tie.Need-add-part Inv-loop μ-loop
-add-part c = search needs
-
--- src/lib.rt:22:20
-element-copy-out-part : tie.Need-element-copy-out-part Inv-loop μ-loop
-element-copy-out-part c = search needs
-
--- src/lib.rt:22:20
-cast-part : tie.Need-cast-part Inv-loop μ-loop
-cast-part c = search needs
-
--- src/lib.rt:23:55
 element-copy-out-name : tie.Need-element-copy-out-name Inv-loop μ-loop
 element-copy-out-name c = c .before .before .before .before .pre .0 .terms (c .before .before .loop .i) (omega arith)
 
--- src/lib.rt:23:13
 put-small-requires : tie.Need-put-small-requires Inv-loop μ-loop
 put-small-requires c κs = c .before .before .before .before .loop .inv .2
 
--- src/lib.rt:25:13
 same-length : tie.Need-same-length Inv-loop μ-loop
 same-length c = let p = c .before .before .before .before in p .put-small .ensures .long ∙ p .before .before .before .before .before .loop .inv .1
 
--- src/lib.rt:25:13
 returns : tie.Need-returns Inv-loop μ-loop
 returns c =
     let p = c .before .before .before .before in
     let l = p .before .before .before .before .before .loop in
     full-puts (bytes (p .before .before .before .before .before)) (l .i) (l .inv .3) (p .put-small .ensures) (p .before .before .before .before .before .before .before .args .many) (omega arith) (not-true _ (c .if1 .taken))
 
--- src/lib.rt:28:9
-add-i : tie.Need-add-i Inv-loop μ-loop
-add-i c = search needs
-
--- src/lib.rt:21:5
 loop-less : tie.Need-loop-less Inv-loop μ-loop
 loop-less c = omega arith
 
--- src/lib.rt:21:5
 loop-again : tie.Need-loop-again Inv-loop μ-loop
 loop-again c =
     let p = c .before .before .before .before in
@@ -85,11 +53,9 @@ loop-again c =
     let f : p .put-small .result .fits ≡ true = not-false _ (c .if1 .left) in
     (omega arith, p .put-small .ensures .long ∙ l .inv .1, ends-within (p .put-small .ensures) f, next-puts (bytes (p .before .before .before .before .before)) (l .i) (l .inv .3) (p .put-small .ensures) f)
 
--- src/lib.rt:14:1
 same-length-2 : tie.Need-same-length-2 Inv-loop μ-loop
 same-length-2 c = c .before .loop .inv .1
 
--- src/lib.rt:14:1
 returns-2 : tie.Need-returns-2 Inv-loop μ-loop
 returns-2 c = let l = c .before .loop in let e : l .i ≡ c .before .before .before .args .many = omega arith in same-bytes (l .inv .3) (ap (upTo (bytes (c .before))) e)
 
@@ -100,15 +66,15 @@ put-parts-spec =
     Inv-loop
     μ-loop
     loop-holds
-    mul-part
-    add-part
-    element-copy-out-part
-    cast-part
+    (λ c. search needs)
+    (λ c. search needs)
+    (λ c. search needs)
+    (λ c. search needs)
     element-copy-out-name
     put-small-requires
     same-length
     returns
-    add-i
+    (λ c. search needs)
     loop-less
     loop-again
     same-length-2

@@ -1,10 +1,10 @@
 -- `put_built`: kind, type and variant, and the parts behind them. Assumes nothing.
-use borrow.Author.Needs.{needs}
+use mathlib.Core.Path.{_∙_}
 use borrow.Author.Tests.{not-false, not-true}
 use Rattle.bytebuffer.proofs.PutLaws.{ends-within}
-use Rattle.rowwriter.proofs.RowLaws.{built-full, built-parts, built-put, some-place}
-use Rattle.rowwriter.proofs.put_built.Statement.{statement}
-use Rattle.rowwriter.proofs.put_built.Tie as tie
+use Rattle.rowterms.proofs.RowLaws.{built-full, built-parts, built-put, some-place}
+use Rattle.rowterms.proofs.put_built.Statement.{statement}
+use Rattle.rowterms.proofs.put_built.Tie as tie
 
 returns : tie.Need-returns
 returns c =
@@ -24,16 +24,21 @@ returns-2 c =
     let p = n .before .before .before .before .before in
     built-put (p .before .before .before .before .before .pre .0) (p .put-three .ensures) (not-false _ (n .before .if1 .left)) (n .part-count .result) (n .part-count .ensures) (w .put-parts .ensures)
 
+same-length-2 : tie.Need-same-length-2
+same-length-2 c =
+    let w = c .before .before in
+    w .put-parts .ensures .long ∙ w .before .before .before .before .before .before .before .put-three .ensures .long
+
 pub put-built-spec : {M : Type 1} → statement M
 put-built-spec =
     tie.close
     (tie.spec
     (λ c. let b = c .before .pre .0 in some-place (b .some) (b .inside))
     (λ c. let b = c .before .before .pre .0 in some-place (b .some) (b .inside))
-    (λ c κs. search needs)
-    (λ c. search needs)
+    (λ c κs. c .before .before .before .before .pre .1)
+    (λ c. c .before .before .before .before .put-three .ensures .long)
     returns
-    (λ c κs. search needs)
+    (λ c κs. c .before .before .before .before .before .before .before .before .before .pre .0)
     put-parts-requires
-    (λ c. search needs)
+    same-length-2
     returns-2)

@@ -1,6 +1,6 @@
--- Rows of a table written as bytes, with the terms that they name renumbered. Assumes nothing: definitions.
+-- One row of a table as bytes, with the terms that it names renumbered. Assumes nothing: definitions.
 use mathlib.Core.Path.{_≡_}
-use mathlib.Core.List.{List, [], _∷_, _++_, map}
+use mathlib.Core.List.{List, [], _++_}
 use Prim.Native.Nat.{ℕ, zero, suc, _+_, _*_, _≤_, _<_}
 use lib.ListN.{length, getD}
 use Rattle.laws.specs.Lists.{concatMap}
@@ -12,7 +12,7 @@ use Rattle.tables.specs.declared.TypeTable.{TypeTable}
 use Rattle.serialize.specs.Tokens.{rowTokens, tokenBytes}
 use Rattle.encoding.specs.Encoding.{encoded}
 use Rattle.heldparts.specs.Held.{HoldsRows, HoldsTypes}
-use Rattle.merged.specs.Merge.{keptRows, named, renamedRow}
+use Rattle.merged.specs.Merge.{named, renamedRow}
 use Rattle.bytebuffer.specs.declared.End.{End}
 use Rattle.bytebuffer.specs.Puts.{Puts}
 
@@ -57,10 +57,3 @@ pub record PartCount (types : TypeTable) (rows : RowTable) (r many : ℕ) : Type
 -- the bytes of row r
 pub record PutsRow (types : TypeTable) (rows : RowTable) (names : List ℕ) (r : ℕ) (out : List ℕ) (at : ℕ) (end : End) (out′ : List ℕ) : Type 0 where
   pub puts : (ts : Types) (rs : List Row) → HoldsTypes types ts → HoldsRows rows ts rs → Puts (rowBytes names (rowAt rs r)) out at end out′
-
--- ---- all rows
-
--- the bytes of the rows that aren't skipped
-pub record PutsRows (types : TypeTable) (rows : RowTable) (names skipped : List ℕ) (out : List ℕ) (at : ℕ) (end : End) (out′ : List ℕ) : Type 0 where
-  pub puts : (ts : Types) (rs : List Row) → HoldsTypes types ts → HoldsRows rows ts rs
-      → Puts (concatMap tokenBytes (concatMap rowTokens (map (renamedRow names) (keptRows skipped rs)))) out at end out′

@@ -1,23 +1,21 @@
 -- The bytes of a row, one behind the other. Assumes nothing.
 use mathlib.Core.Path.{_≡_, refl, ap, ap₂, sym, _∙_}
 use mathlib.Core.Bool.{true, false}
-use mathlib.Core.List.{List, [], _∷_, _++_, append-assoc, append-nil, map}
+use mathlib.Core.List.{List, [], _∷_, _++_, append-assoc, map}
 use Prim.Native.Nat.{ℕ, suc, _<_}
 use native.Mathlib.Omega.{arith}
-use lib.IntN.{ℤ}
 use lib.ListN.{length, getD}
 use Rattle.laws.specs.Lists.{concatMap}
-use Rattle.guard.specs.Guard.{Row.constant, Row.field}
-use Rattle.guard.specs.Number.{foldSigned, width64}
+use Rattle.guard.specs.Guard.{Row.field}
 use Rattle.serialize.specs.Tokens.{Token.plain, tokenBytes}
-use Rattle.encoding.specs.Encoding.{encoded, encodedOf, encodedValue}
+use Rattle.encoding.specs.Encoding.{encoded}
 use Rattle.encoding.proofs.ReadBack.{one-byte}
 use Rattle.merged.specs.Merge.{named}
 use Rattle.bytebuffer.specs.declared.End.{End}
 use Rattle.bytebuffer.specs.Puts.{Puts}
 use Rattle.bytebuffer.proofs.PutLaws.{and-then, same-bytes, still-full}
-use Rattle.rowwriter.specs.Rows.{rowBytes, upTo}
-use Rattle.rowwriter.proofs.LoopLaws.{from-front}
+use Rattle.rowterms.specs.Rows.{rowBytes, upTo}
+use Rattle.rowterms.proofs.LoopLaws.{from-front}
 
 -- ---- small numbers have a byte each
 
@@ -34,20 +32,6 @@ parts-bytes names f [] h = refl
 parts-bytes names f (p ∷ ps) h =
     from-front (λ k. encoded (named names (f k))) (length ps)
     ∙ ap₂ (λ (x : ℕ) (l : List ℕ). encoded (named names x) ++ l) (h 0 (omega arith)) (parts-bytes names (λ k. f (suc k)) ps (λ k l. h (suc k) (omega arith)))
-
--- ---- constants
-
-module _ (t : ℕ) (x : ℤ) (small : t < 128) where
-  value-last : (1 ∷ t ∷ []) ++ encodedOf width64 (foldSigned x) ≡ rowBytes [] (constant t x)
-  unfolding encodedValue
-  value-last = two-bytes 1 t (omega arith) small (encodedOf width64 (foldSigned x)) ∙ ap (λ (l : List ℕ). encoded 1 ++ (encoded t ++ l)) (sym (append-nil (encodedOf width64 (foldSigned x))))
-
-  module _ {out out′ : List ℕ} {at : ℕ} {end : End} (p : Puts (1 ∷ t ∷ []) out at end out′) where
-    pub constant-full : end .fits ≡ false → Puts (rowBytes [] (constant t x)) out at end out′
-    constant-full e = same-bytes (still-full p e (encodedOf width64 (foldSigned x))) value-last
-
-    pub constant-put : end .fits ≡ true → (n : ℕ) → n ≡ foldSigned x → {end′ : End} {out″ : List ℕ} → Puts (encodedOf width64 n) out′ (end .at) end′ out″ → Puts (rowBytes [] (constant t x)) out at end′ out″
-    constant-put e n q w = same-bytes (and-then p e w) (ap (λ (k : ℕ). (1 ∷ t ∷ []) ++ encodedOf width64 k) q ∙ value-last)
 
 -- ---- field reads
 

@@ -3,8 +3,8 @@ use native.Mathlib.Omega.{arith}
 use borrow.Author.Needs.{needs}
 use Rattle.encoding.proofs.ReadBack.{same-encoded}
 use Rattle.bytebuffer.proofs.PutLaws.{same-bytes}
-use Rattle.rowwriter.proofs.put_small.Statement.{statement}
-use Rattle.rowwriter.proofs.put_small.Tie as tie
+use Rattle.rowterms.proofs.put_small.Statement.{statement}
+use Rattle.rowterms.proofs.put_small.Tie as tie
 
 returns : tie.Need-returns
 returns c = let p = c .before .before in same-bytes (p .put-number .ensures) (same-encoded (p .before .before .before .args .n) (omega arith))
