@@ -47,6 +47,10 @@ rows-both rs ss = ap (concatMap tokenBytes) (concatMap-append rowTokens rs ss) �
 pub literals-both : (ls ms : List Literal) → literalsBytes (ls ++ ms) ≡ literalsBytes ls ++ literalsBytes ms
 literals-both ls ms = ap (concatMap tokenBytes) (concatMap-append literalTokens ls ms) ∙ concatMap-append tokenBytes (concatMap literalTokens ls) (concatMap literalTokens ms)
 
+pub merged-types : (g h : Guard) → typePart (g .types) ≡ typePart (merged g h .types)
+unfolding merged
+merged-types g h = refl
+
 pub line-count : (g h : Guard) → length (merged g h .literals) ≡ length (g .literals) + length (h .literals)
 unfolding merged
 line-count g h = length-append (g .literals) (map (renamedLiteral (names g h)) (h .literals)) ∙ ap (λ (k : ℕ). length (g .literals) + k) (length-map (h .literals) (renamedLiteral (names g h)))
