@@ -6,7 +6,7 @@ use Prim.Native.Nat.{ℕ, _+_, _≤_, _<_}
 use native.Mathlib.Omega.{arith}
 use lib.Dec.{leb}
 use lib.ListN.{length}
-use borrow.Author.Tests.{le-leb, lt-leb}
+use borrow.Author.Tests.{le-leb, leb-true, lt-leb}
 use Rattle.laws.proofs.Bools.{by-test}
 use Rattle.guard.specs.File.{file}
 use Rattle.guard.specs.Guard.{Guard}
@@ -73,12 +73,33 @@ module _ {first second : Tables} {g h : Guard} (b : BothOf first second g h) {n 
       pub no-question : lines ≤ 32 → 0 ≡ questionIn (askedOfSame base g h)
       no-question l = sym (asked-is true true true e (le-leb (n .rows) 24 few) (le-leb lines 32 l))
 
+  -- there is room where no question gets a no
+  pub room-there : 0 ≡ questionIn (askedOfSame base g h) → (n .rows ≤ 24) × (lines ≤ 32)
+  room-there z =
+      by-test (n .agree)
+      (λ a. by-test (leb (n .rows) 24)
+      (λ r. by-test (leb lines 32) (λ l. (leb-true (n .rows) 24 r, leb-true lines 32 l)) (λ l. absurd (omega (arith, z ∙ asked-is true true false a r l))))
+      (λ r. absurd (omega (arith, z ∙ asked-is true false (leb lines 32) a r refl))))
+      (λ a. absurd (omega (arith, z ∙ asked-is false (leb (n .rows) 24) (leb lines 32) a refl refl)))
+
 -- ---- two files
 
--- the tables of a file are those of a guard that a reader took
-pub tables-of : (bytes : List ℕ) (t : Tables) → t ≡ tablesAt base bytes → (g : Guard) (rest : List ℕ) → file base bytes ≡ accepted g rest → TablesOf t g
-tables-of bytes t is g rest e =
-    record { are = guard-tables base bytes t is g rest e; fits = accepted-well-formed base base-supported bytes g rest e; total = accepted-total base bytes g rest e }
+-- a file that is taken, with the tables of its guard
+pub record Opened (bytes : List ℕ) (t : Tables) : Type 0 where
+  pub guard : Guard
+  pub rest : List ℕ
+  pub is : file base bytes ≡ accepted guard rest
+  pub tables : TablesOf t guard
+
+pub opened : (bytes : List ℕ) (t : Tables) → t ≡ tablesAt base bytes → t .refused ≡ 0 → Opened bytes t
+opened bytes t is z =
+    let (g, rest, e) = taken-file base bytes t is z in
+    record {
+      guard = g;
+      rest = rest;
+      is = e;
+      tables = record { are = guard-tables base bytes t is g rest e; fits = accepted-well-formed base base-supported bytes g rest e; total = accepted-total base bytes g rest e };
+    }
 
 module _ (first second : List ℕ) where
   by-files : (p r : Parsed Guard) → file base first ≡ p → file base second ≡ r → mergedFile base first second ≡ mergedBy base p r
