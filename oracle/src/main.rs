@@ -8,6 +8,7 @@ use std::process::ExitCode;
 
 use oracle::answer::{answer, answer_to};
 use oracle::guard::{Guard, Limits};
+use oracle::merge::{self, Refusal};
 use oracle::read::Question;
 use oracle::vectors::{self, lists, records, Vector, USUAL_BUDGET};
 use oracle::{list, read, record, smt, tables, text};
@@ -21,6 +22,7 @@ usage: oracle answer FILE [--budget N]        the answer to a guard file
        oracle list FILE                       the numbers of a guard file, constants as
                                               their values
        oracle write LIST                      the guard file of such numbers, in hexadecimal
+       oracle merge FIRST SECOND              the two guards as one file, in hexadecimal
        oracle vectors [--check] DIR           writes or checks DIR/vectors.txt
        oracle records [--check] DIR           writes or checks DIR/records.txt, with
                                               guards of DIR/vectors.txt
@@ -33,7 +35,7 @@ usage: oracle answer FILE [--budget N]        the answer to a guard file
        oracle walks [--check] VECTORS DIR     the same, with the answer to each in a line
        oracle answers [--check] VECTORS DIR   writes or checks DIR/stdin, and checks
                                               DIR/stdout, the whole answers of the desk
-FILE, OUTPUT, RECORD and LIST may be - for standard input. N is 1000000 if not given.";
+A FILE, OUTPUT, RECORD, LIST, FIRST or SECOND may be - for standard input. N is 1000000 if not given.";
 
 /// Why the program fails.
 enum Failure {
@@ -76,6 +78,7 @@ fn run(words: &[&str]) -> Result<(), Failure> {
         ["check-record", file, record] => check_record_command(file, record),
         ["list", file] => list_command(file),
         ["write", list] => write_command(list),
+        ["merge", first, second] => merge_command(first, second),
         ["vectors", "--check", dir] => check_kept(&VECTORS, dir),
         ["vectors", dir] => write_kept(&VECTORS, dir),
         ["records", "--check", dir] => check_kept(&RECORDS, dir),
@@ -115,7 +118,10 @@ fn load(path: &str) -> Result<Vec<u8>, Failure> {
 }
 
 fn load_text(path: &str) -> Result<String, Failure> {
-    let bytes = load(path)?;
+    as_text(path, load(path)?)
+}
+
+fn as_text(path: &str, bytes: Vec<u8>) -> Result<String, Failure> {
     String::from_utf8(bytes).map_err(|_| Failure::Wrong(format!("{path} isn't UTF-8 text")))
 }
 
@@ -135,13 +141,19 @@ fn answer_command(file: &str, budget: u32) -> Result<(), Failure> {
     print(&format!("{answer}\n"))
 }
 
-/// A guard file and a text about it.
-fn load_both(file: &str, text: &str) -> Result<(Vec<u8>, String), Failure> {
-    if file == "-" && text == "-" {
+/// Two files.
+fn load_two(first: &str, second: &str) -> Result<(Vec<u8>, Vec<u8>), Failure> {
+    if first == "-" && second == "-" {
         let why = "only one of the two files can be standard input";
         return Err(Failure::Usage(why.to_string()));
     }
-    Ok((load(file)?, load_text(text)?))
+    Ok((load(first)?, load(second)?))
+}
+
+/// A guard file and a text about it.
+fn load_both(file: &str, text: &str) -> Result<(Vec<u8>, String), Failure> {
+    let (bytes, about) = load_two(file, text)?;
+    Ok((bytes, as_text(text, about)?))
 }
 
 fn check_command(file: &str, output: &str, budget: u32) -> Result<(), Failure> {
@@ -195,6 +207,16 @@ fn write_command(path: &str) -> Result<(), Failure> {
     let file = list::write(&numbers, Limits::BASE);
     let file = file.map_err(|question| refused("list", question))?;
     print(&format!("{}\n", vectors::hex(&file)))
+}
+
+fn merge_command(first: &str, second: &str) -> Result<(), Failure> {
+    let (first, second) = load_two(first, second)?;
+    let merged = merge::merge(&first, &second, Limits::BASE).map_err(|refusal| match refusal {
+        Refusal::First(question) => refused("first file", question),
+        Refusal::Second(question) => refused("second file", question),
+        _ => Failure::Wrong(format!("the merge is REFUSED {}", refusal.number())),
+    })?;
+    print(&format!("{}\n", vectors::hex(&merged)))
 }
 
 /// A file of test data, which is made anew to be written or compared.

@@ -79,7 +79,7 @@ fn checks_printed_answers() {
 
 #[test]
 fn wrong_use_is_said() {
-    let cases: [&[&str]; 31] = [
+    let cases: [&[&str]; 34] = [
         &[],
         &["nonsense"],
         &["answer"],
@@ -99,6 +99,9 @@ fn wrong_use_is_said() {
         &["list"],
         &["list", "no such file"],
         &["write", "no such file"],
+        &["merge", "-"],
+        &["merge", "-", "-"],
+        &["merge", "-", "no such file"],
         &["vectors", "--check", "no such directory"],
         &["records", "no such directory"],
         &["records", "--check", "no such directory"],
@@ -165,6 +168,27 @@ fn checks_records() {
     ] {
         let output = check(record);
         assert_eq!(output.status.code(), Some(1), "{record}");
+        assert!(String::from_utf8_lossy(&output.stderr).contains(why));
+    }
+}
+
+#[test]
+fn merges_two_files() {
+    let file = scratch("merge").join("c");
+    fs::write(&file, C).expect("written");
+    let file = file.display().to_string();
+    let output = oracle(&["merge", &file, "-"], C);
+    assert_eq!(
+        printed(&output),
+        "02000200020001030001030001010300010102000001000002\n"
+    );
+    for (words, input, why) in [
+        (["merge", &file, "-"], &[7][..], "second file is REFUSED 4"),
+        (["merge", "-", &file], &[], "the first file is REFUSED 2"),
+        (["merge", "-", &file], &[0, 0, 0], "the merge is REFUSED 15"),
+    ] {
+        let output = oracle(&words, input);
+        assert_eq!(output.status.code(), Some(1), "{why}");
         assert!(String::from_utf8_lossy(&output.stderr).contains(why));
     }
 }
