@@ -10,7 +10,7 @@ use oracle::answer::{answer, answer_to};
 use oracle::guard::{Guard, Limits};
 use oracle::merge::{self, Refusal};
 use oracle::read::Question;
-use oracle::vectors::{self, lists, records, Vector, USUAL_BUDGET};
+use oracle::vectors::{self, lists, merges, records, Vector, USUAL_BUDGET};
 use oracle::{list, read, record, smt, tables, text};
 
 const USAGE: &str = "\
@@ -27,6 +27,8 @@ usage: oracle answer FILE [--budget N]        the answer to a guard file
        oracle records [--check] DIR           writes or checks DIR/records.txt, with
                                               guards of DIR/vectors.txt
        oracle lists [--check] DIR             writes or checks DIR/lists.txt, with
+                                              guards of DIR/vectors.txt
+       oracle merges [--check] DIR            writes or checks DIR/merges.txt, with
                                               guards of DIR/vectors.txt
        oracle pack VECTORS OUT                packs vectors into one binary file
        oracle tables [--check] VECTORS DIR    writes or checks DIR/stdin, the packed
@@ -85,6 +87,8 @@ fn run(words: &[&str]) -> Result<(), Failure> {
         ["records", dir] => write_kept(&RECORDS, dir),
         ["lists", "--check", dir] => check_kept(&LISTS, dir),
         ["lists", dir] => write_kept(&LISTS, dir),
+        ["merges", "--check", dir] => check_kept(&MERGES, dir),
+        ["merges", dir] => write_kept(&MERGES, dir),
         ["pack", vectors, out] => pack_command(vectors, out),
         ["tables", "--check", vectors, dir] => check_run(vectors, dir, tables::summaries),
         ["tables", vectors, dir] => write_run(vectors, dir, tables::summaries),
@@ -252,6 +256,15 @@ const LISTS: Kept = Kept {
     make: |dir| {
         let all = lists::all(&vectors_of(dir)?).map_err(Failure::Wrong)?;
         Ok((lists::text(&all), all.len()))
+    },
+};
+
+const MERGES: Kept = Kept {
+    name: "merges.txt",
+    what: "merges",
+    make: |dir| {
+        let all = merges::all(&vectors_of(dir)?).map_err(Failure::Wrong)?;
+        Ok((merges::text(&all), all.len()))
     },
 };
 

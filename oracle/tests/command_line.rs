@@ -79,7 +79,7 @@ fn checks_printed_answers() {
 
 #[test]
 fn wrong_use_is_said() {
-    let cases: [&[&str]; 34] = [
+    let cases: [&[&str]; 36] = [
         &[],
         &["nonsense"],
         &["answer"],
@@ -107,6 +107,8 @@ fn wrong_use_is_said() {
         &["records", "--check", "no such directory"],
         &["lists", "no such directory"],
         &["lists", "--check", "no such directory"],
+        &["merges", "no such directory"],
+        &["merges", "--check", "no such directory"],
         &["pack", "no such file", "out"],
         &["tables", "no such file", "."],
         &["tables", "--check", "no such file", "."],
@@ -223,6 +225,11 @@ fn records_are_written_and_checked() {
 #[test]
 fn lists_are_written_and_checked() {
     made_and_checked("lists");
+}
+
+#[test]
+fn merges_are_written_and_checked() {
+    made_and_checked("merges");
 }
 
 /// Document 01's case j: the values −3 and 4.
