@@ -2,10 +2,10 @@
 
 mod messages;
 
-use messages::{holds, small_messages, value, Message};
+use messages::{holds, small_messages, tiny, value, Message};
 use oracle::answer::{answer, Answer};
 use oracle::guard::{Guard, Limits, Row};
-use oracle::random::{draft, Profile, Random, Types};
+use oracle::random::{draft, Random};
 use oracle::read::read;
 
 /// Gives the remaining rows values, trying each small message for a variable.
@@ -29,26 +29,10 @@ fn some_model(guard: &Guard, small: &[Vec<Message>], values: &mut Vec<Message>) 
 
 #[test]
 fn small_models_agree_with_the_search() {
-    let profile = |row_kinds, line_kinds| Profile {
-        name: "tiny",
-        types: Types::Made {
-            types: 1..=3,
-            numbers: 30,
-            enumerations: 25,
-            variants: 1..=3,
-            fields: [4, 3, 2, 1],
-        },
-        rows: 1..=6,
-        lines: 1..=6,
-        row_kinds,
-        line_kinds,
-        deep: 30,
-        values: vec![0, 1, 2, -1],
-    };
     let profiles = [
-        profile([3, 1, 2, 4], [3, 4, 1, 1]),
-        profile([1, 1, 4, 5], [6, 4, 1, 2]),
-        profile([1, 0, 0, 3], [4, 1, 1, 3]),
+        tiny([3, 1, 2, 4], [3, 4, 1, 1]),
+        tiny([1, 1, 4, 5], [6, 4, 1, 2]),
+        tiny([1, 0, 0, 3], [4, 1, 1, 3]),
     ];
     let mut random = Random::named("brute force");
     let (mut found, mut missed, mut none) = (0, 0, 0);

@@ -5,7 +5,7 @@ mod messages;
 
 use std::collections::BTreeMap;
 
-use messages::{holds, small_messages, value, Message};
+use messages::{holds, small_messages, tiny, value, Message};
 use oracle::answer::{answer_to, Answer};
 use oracle::guard::{Guard, Limits, Row};
 use oracle::list::LONGEST_FILE;
@@ -41,25 +41,6 @@ fn assignment(random: &mut Random, guard: &Guard, small: &[Vec<Message>]) -> Vec
     variables.map(&mut message).collect()
 }
 
-fn tiny() -> Profile {
-    Profile {
-        name: "tiny",
-        types: Types::Made {
-            types: 1..=3,
-            numbers: 30,
-            enumerations: 25,
-            variants: 1..=3,
-            fields: [4, 3, 2, 1],
-        },
-        rows: 1..=6,
-        lines: 0..=2,
-        row_kinds: [3, 1, 2, 4],
-        line_kinds: [3, 4, 1, 2],
-        deep: 30,
-        values: vec![0, 1, 2, -1],
-    }
-}
-
 /// "An assignment satisfies the merged guard exactly if its parts satisfy the
 /// two." The k'th variable of either is the k'th of the merged guard.
 #[test]
@@ -67,12 +48,12 @@ fn an_assignment_satisfies_both_or_not_the_merged_one() {
     let mut random = Random::named("assignments");
     let (mut both, mut one, mut neither) = (0, 0, 0);
     for _ in 0..600 {
-        let first = draft(&mut random, &tiny());
-        let given = Types::Given(first.types.clone());
-        let profile = Profile {
-            types: given,
-            ..tiny()
+        let mut profile = Profile {
+            lines: 0..=2,
+            ..tiny([3, 1, 2, 4], [3, 4, 1, 2])
         };
+        let first = draft(&mut random, &profile);
+        profile.types = Types::Given(first.types.clone());
         let second = draft(&mut random, &profile).bytes();
         let Ok(merged) = merge(&first.bytes(), &second, Limits::BASE) else {
             continue;

@@ -43,11 +43,13 @@ pub type New<I> = (I, usize, Option<Answer>);
 /// A growing set of calls.
 pub struct Set<I>(Vec<Written<I>>);
 
-impl<I: Input> Set<I> {
-    pub fn new() -> Set<I> {
+impl<I> Default for Set<I> {
+    fn default() -> Set<I> {
         Set(Vec::new())
     }
+}
 
+impl<I: Input> Set<I> {
     pub fn add(&mut self, name: String, (input, room, expected): New<I>) -> Result<(), String> {
         let answer = input.answer(room);
         if let Some(expected) = expected.filter(|expected| *expected != answer) {

@@ -1,6 +1,7 @@
-//! Small messages, and what a guard says of them.
+//! Small guards and messages, and what a guard says of them.
 
 use oracle::guard::{Guard, Line, Row};
+use oracle::random::{Profile, Types};
 use oracle::types::{DefaultOf, Type};
 
 #[derive(Clone, Debug, PartialEq)]
@@ -95,5 +96,25 @@ pub fn holds(line: &Line, values: &[Message]) -> bool {
         Line::Unequal(a, b) => values[a] != values[b],
         Line::Is(term, variant) => is(term, variant),
         Line::Isnt(term, variant) => !is(term, variant),
+    }
+}
+
+/// Guards with few rows and lines, of such kinds.
+pub fn tiny(row_kinds: [usize; 4], line_kinds: [usize; 4]) -> Profile {
+    Profile {
+        name: "tiny",
+        types: Types::Made {
+            types: 1..=3,
+            numbers: 30,
+            enumerations: 25,
+            variants: 1..=3,
+            fields: [4, 3, 2, 1],
+        },
+        rows: 1..=6,
+        lines: 1..=6,
+        row_kinds,
+        line_kinds,
+        deep: 30,
+        values: vec![0, 1, 2, -1],
     }
 }

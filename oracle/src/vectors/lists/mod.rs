@@ -101,7 +101,7 @@ pub fn damaged(random: &mut Random, tokens: &[Token]) -> Option<Vec<i64>> {
 pub fn all(vectors: &[Vector]) -> Result<Vec<Written>, String> {
     let (drawn, later): (Vec<_>, Vec<_>) = vectors.iter().partition(|v| is_drawn_from(v));
     let (sources, later) = (sources(drawn), sources(later));
-    let mut set = Set::new();
+    let mut set = Set::default();
     whole(&mut set, &sources)?;
     values(&mut set, &sources)?;
     far(&mut set, &sources, &later)?;

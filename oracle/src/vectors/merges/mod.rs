@@ -107,7 +107,7 @@ const FAMILIES: [Family; 11] = [
 /// All pairs, sorted by name, or why they can't be made from these vectors.
 pub fn all(vectors: &[Vector]) -> Result<Vec<Merged>, String> {
     let sources = sources(vectors);
-    let mut set = Set::new();
+    let mut set = Set::default();
     for (name, many, answers, make) in FAMILIES {
         set.fill(name, many, |random| {
             let pair = make(random, &sources)?;
