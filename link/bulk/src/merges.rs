@@ -111,28 +111,22 @@ mod tests {
     use crate::desk::planted::Merge;
     use crate::desk::Library;
     use crate::outputs::compare_lines;
-    use crate::outputs::planted::{change_last, mark_last, taken, MARKED};
+    use crate::outputs::planted::{
+        assert_words, change_last, first_fault, mark_last, taken, MARKED,
+    };
     use guarddesk::raw::merge_into;
 
     /// The first fault that a desk shows on some hundred files.
     fn fault(desk: impl Desk) -> Option<String> {
-        let maker = Maker::default();
-        let mut random = Random::named("planted merges");
-        let mut merger = Merger::new(&mut random, &maker);
-        let mut merged = Numbered::default();
-        (0..300).find_map(|_| {
-            let file = maker.make(&mut random);
-            let known = Known::new(&file, 1);
-            let compared = merger.compare(&desk, &mut random, &file, &known, &mut merged);
-            compared.err().map(|mismatch| mismatch.why)
-        })
+        let mut merger = Merger::new(&mut Random::named("merger"), &Maker::default());
+        let mut counts = Numbered::default();
+        first_fault(|random, file, known| merger.compare(&desk, random, file, known, &mut counts))
     }
 
     type Wrong = fn(&[u8], &[u8], &mut [u8]) -> i64;
 
     fn assert_found(wrong: Wrong, words: &str) {
-        let why = fault(Merge(wrong)).unwrap_or_else(|| panic!("nothing found, wanted {words:?}"));
-        assert!(why.contains(words), "{why:?} lacks {words:?}");
+        assert_words(fault(Merge(wrong)), words);
     }
 
     #[test]

@@ -129,6 +129,30 @@ pub fn compare_lines<G: Given>(desk: &impl Desk, text: &str) -> Result<Numbered,
 /// What the tests of both calls share.
 #[cfg(test)]
 pub mod planted {
+    use crate::files::Maker;
+    use crate::known::Known;
+    use crate::mismatch::Mismatch;
+    use oracle::random::Random;
+
+    /// The first fault that a comparison shows on some hundred files.
+    pub fn first_fault(
+        mut compare: impl FnMut(&mut Random, &[u8], &Known) -> Result<(), Box<Mismatch>>,
+    ) -> Option<String> {
+        let maker = Maker::default();
+        let mut random = Random::named("planted files");
+        (0..300).find_map(|_| {
+            let file = maker.make(&mut random);
+            let compared = compare(&mut random, &file, &Known::new(&file, 1));
+            compared.err().map(|mismatch| mismatch.why)
+        })
+    }
+
+    /// Such a fault has these words.
+    pub fn assert_words(fault: Option<String>, words: &str) {
+        let why = fault.unwrap_or_else(|| panic!("nothing found, wanted {words:?}"));
+        assert!(why.contains(words), "{why:?} lacks {words:?}");
+    }
+
     /// A mark in the last byte behind the file, after some codes.
     pub fn mark_last(code: i64, out: &mut [u8], marks: fn(i64) -> bool) -> i64 {
         if marks(code) {

@@ -90,30 +90,23 @@ mod tests {
     use super::*;
     use crate::desk::planted::Write;
     use crate::desk::Library;
-    use crate::files::Maker;
     use crate::outputs::compare_lines;
-    use crate::outputs::planted::{change_last, mark_last, taken, MARKED};
+    use crate::outputs::planted::{
+        assert_words, change_last, first_fault, mark_last, taken, MARKED,
+    };
     use guarddesk::raw::write_into;
 
     /// The first fault that a desk shows on some hundred files.
     fn fault(desk: impl Desk) -> Option<String> {
-        let maker = Maker::default();
-        let mut random = Random::named("planted lists");
-        let mut writer = Writer::new(&mut random);
-        let mut written = Numbered::default();
-        (0..300).find_map(|_| {
-            let file = maker.make(&mut random);
-            let known = Known::new(&file, 1);
-            let compared = writer.compare(&desk, &mut random, &file, &known, &mut written);
-            compared.err().map(|mismatch| mismatch.why)
-        })
+        let mut writer = Writer::new(&mut Random::named("writer"));
+        let mut counts = Numbered::default();
+        first_fault(|random, file, known| writer.compare(&desk, random, file, known, &mut counts))
     }
 
     type Wrong = fn(&[i64], &mut [u8]) -> i64;
 
     fn assert_found(wrong: Wrong, words: &str) {
-        let why = fault(Write(wrong)).unwrap_or_else(|| panic!("nothing found, wanted {words:?}"));
-        assert!(why.contains(words), "{why:?} lacks {words:?}");
+        assert_words(fault(Write(wrong)), words);
     }
 
     #[test]
