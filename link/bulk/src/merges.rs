@@ -58,8 +58,11 @@ impl Merger {
     ) -> Result<(), Box<Mismatch>> {
         let Ok(guard) = &known.guard else {
             let other = &self.others[random.below(OTHERS)].0;
-            let pairs = [Pair::new(file, other), Pair::new(other, file)];
-            return self.compare_all(desk, random, &pairs, merged);
+            // Often refused as well.
+            let mut damaged = other.clone();
+            files::change(random, &mut damaged);
+            let pairs = [other, &damaged].map(|o| [Pair::new(file, o), Pair::new(o, file)]);
+            return self.compare_all(desk, random, &pairs.concat(), merged);
         };
         let same = Pair::new(file, file);
         let length = same.answer(usize::MAX).map_or(0, |file| file.len());
@@ -154,22 +157,17 @@ mod tests {
             |first, second, out| instead(merge_into(first, second, out), -10, -2),
             // The second is asked before the first.
             |first, second, out| {
-                let code = merge_into(second, first, &mut out.to_vec());
-                let right = merge_into(first, second, out);
-                if right < 0 && code < 0 {
-                    code
-                } else {
-                    right
+                let exchanged = merge_into(second, first, &mut out.to_vec());
+                let code = merge_into(first, second, out);
+                match code < 0 {
+                    true => exchanged,
+                    false => code,
                 }
             },
         ];
-        for wrong in &wrongs[..6] {
-            assert_found(*wrong, "what it returned is another");
+        for wrong in wrongs {
+            assert_found(wrong, "what it returned is another");
         }
-        // Both have to be refused for it to show: pairs of the kept ones do.
-        let both = "both\t9\t-\t07\tREFUSED 2\n";
-        assert!(compare_lines::<Pair>(&Merge(wrongs[6]), both).is_err());
-        assert!(compare_lines::<Pair>(&Library, both).is_ok());
     }
 
     #[test]

@@ -3,6 +3,7 @@
 use super::{Answer, Pair};
 use crate::encode::Draft;
 use crate::guard::{Guard, Limits, Line, Row};
+use crate::list::LONGEST_FILE;
 use crate::random::{draft, far_value, Profile, Random, Types};
 use crate::read::read;
 use crate::types::Type;
@@ -332,4 +333,51 @@ pub fn limits() -> Vec<(String, Pair, Answer)> {
         }
     }
     all
+}
+
+/// Pairs with several faults, each with the length of its output buffer and the
+/// number of the first fault.
+pub fn orders() -> Vec<(&'static str, Pair, usize, u8)> {
+    let two = Draft::new(&[&[], &[]]);
+    // A variable of one of two number types, then constants to the full.
+    let full = |ty: usize| {
+        let mut draft = two.clone();
+        draft.variable(ty);
+        for value in 1..Limits::BASE.terms {
+            draft.constant(0, value as i64);
+        }
+        draft.bytes()
+    };
+    let (one, other, single) = (full(0), full(1), counted(3, 1, 0).bytes());
+    let longer = |file: &[u8]| [file, &[0]].concat();
+    let cut = &other[..other.len() - 1];
+    vec![
+        ("first", Pair::new(&longer(&one), cut), 0, 10),
+        ("second", Pair::new(&one, cut), 0, 2),
+        ("second-types", Pair::new(&single, &longer(&other)), 0, 10),
+        ("types", Pair::new(&single, &other), 0, 15),
+        (
+            "types-too-many",
+            Pair::new(&other, &counted(0, 24, 0).bytes()),
+            LONGEST_FILE,
+            15,
+        ),
+        ("variables", Pair::new(&one, &other), 0, 16),
+        (
+            "variables-too-many",
+            Pair::new(&one, &other),
+            LONGEST_FILE,
+            16,
+        ),
+        ("too-many", Pair::new(&one, &one), 0, 4),
+        (
+            "too-many-lines",
+            {
+                let lines = counted(1, 0, Limits::BASE.lines).bytes();
+                Pair::new(&lines, &lines)
+            },
+            0,
+            4,
+        ),
+    ]
 }

@@ -117,6 +117,9 @@ pub fn all(vectors: &[Vector]) -> Result<Vec<Merged>, String> {
     for (name, pair, answer) in made::limits() {
         set.add(name, (pair, LONGEST_FILE, Some(answer)))?;
     }
+    for (name, pair, room, question) in made::orders() {
+        set.add(format!("order-{name}"), (pair, room, Some(Err(question))))?;
+    }
     settled_files(&mut set, &sources)?;
     refused(&mut set, vectors, &sources)?;
     outputs(&mut set, &sources)?;
