@@ -1,16 +1,16 @@
 /*
  * The guard desk: whether a guard over message fields can hold at all and, where it can, messages that make it hold; where it
  * cannot, a record of every branch that was tried, and a check of such records. And a writer of guard files, for programs that
- * make guards.
+ * make guards, and a merge of two guards that have to hold at once.
  *
- * Four functions, in libdesklink.a (x86-64 Linux). What they give is proved for every file, budget, record, list and buffer length;
+ * Five functions, in libdesklink.a (x86-64 Linux). What they give is proved for every file, budget, record, list and buffer length;
  * docs/EMBEDDING.md says what rests on what.
  *
  *   - They allocate nothing, keep nothing between calls and call nothing but memcpy and memset. Calls in several
  *     threads at once are fine, each with its own buffers.
  *   - They always end. The budget bounds the time of guarddesk_decide: no more nodes than that are searched. At the limits of a
  *     guard a node was measured at 1 to 1.8 microseconds (docs/BENCHMARKS.md). guarddesk_explain visits the nodes of a closed search
- *     once more, guarddesk_check at most those of the record. guarddesk_write searches nothing.
+ *     once more, guarddesk_check at most those of the record. guarddesk_write and guarddesk_merge search nothing.
  *   - Each needs 820 KB of stack or less, guarddesk_write 12 KB (docs/EMBEDDING.md counts the bytes).
  */
 #ifndef GUARDDESK_H
@@ -51,7 +51,7 @@ extern "C" {
 /* How many bytes of a record suffice for each node of the node count. */
 #define GUARDDESK_RECORD_BYTES_PER_NODE 3
 
-/* How many bytes of output always suffice for guarddesk_write: no guard file is longer. */
+/* How many bytes of output always suffice for guarddesk_write and guarddesk_merge: no guard file is longer. */
 #define GUARDDESK_FILE_LENGTH 585
 
 /* The nodes of a record, by their first number. */
@@ -154,6 +154,28 @@ uint32_t guarddesk_check(const uint8_t *file, size_t file_length, const uint8_t 
  * The caller owes what guarddesk_decide asks, for these two areas.
  */
 int64_t guarddesk_write(const int64_t *list, size_t list_length, uint8_t *out, size_t out_length);
+
+/*
+ * Merges two guard files with the same types into one, for a procedure inside another: messages make the merged guard hold exactly
+ * if they make both hold. The other calls take what it writes.
+ *
+ * The variables of the second are those of the first, in order: its variable k, counted from 0 among its variables alone, is the
+ * first's variable k, as long as both have one. The merged file has the first's rows as they are, then the second's but for these
+ * variables, with the terms that they name renumbered, then the first's lines, then the second's, renumbered too. So term j of the
+ * first is term j of the merged guard, and the second's variables that the first has no partner for become variables of it.
+ *
+ * It returns how many bytes the merged file has. They stand in front of out, and bytes behind them are 0. GUARDDESK_FILE_LENGTH
+ * bytes always suffice. Otherwise it returns a number below 0, minus the first question that got a no, and all of out is 0:
+ *    -2 to -10  of the first file, then of the second, as for guarddesk_decide
+ *   -15  the types differ: the bytes before the number of terms are not the same in both
+ *   -16  two variables taken as one differ in type
+ *    -4  the merged guard has more than 24 terms or 32 lines
+ *   -14  the merged file has more than out_length bytes; this is asked last
+ *
+ * The caller owes what guarddesk_decide asks, for these three areas; the two files may overlap each other.
+ */
+int64_t guarddesk_merge(const uint8_t *first, size_t first_length, const uint8_t *second, size_t second_length,
+                        uint8_t *out, size_t out_length);
 
 #ifdef __cplusplus
 }

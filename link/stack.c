@@ -1,6 +1,6 @@
 /*
  * stack HEX BUDGET: how much stack each call takes on a guard file, given in hexadecimal; the writer's is the same for every list
- * that it takes. Each runs in a thread of its own on a painted stack, and the thread's own share is in the numbers. Link with -pthread -Wl,-z,now, so that no call looks for memcpy.
+ * that it takes, and the merge's for every two files. Each runs in a thread of its own on a painted stack, and the thread's own share is in the numbers. Link with -pthread -Wl,-z,now, so that no call looks for memcpy.
  */
 #include "guarddesk.h"
 #include <pthread.h>
@@ -14,8 +14,8 @@ static uint8_t file[1024], *record;
 static size_t file_length, record_room, record_length;
 static uint32_t budget, answer[GUARDDESK_ANSWER_LENGTH], question;
 static int32_t rows[GUARDDESK_ROWS_LENGTH], places[GUARDDESK_PLACES_LENGTH];
-static uint8_t written[GUARDDESK_FILE_LENGTH];
-static int64_t written_length;
+static uint8_t written[GUARDDESK_FILE_LENGTH], merged[GUARDDESK_FILE_LENGTH];
+static int64_t written_length, merged_length;
 
 static void *decide(void *nothing)
 {
@@ -43,6 +43,13 @@ static void *write_file(void *nothing)
     static const int64_t list[] = {2, 0, 2, 0, 2, 0, 1, 4, 0, 1, 1, 0, -300, 2, 1, 1, 1, 0, 3, 0, 1, 1,
                                    4, 0, 0, 2, 1, 0, 3, 2, 0, 1, 3, 3, 0};
     written_length = guarddesk_write(list, sizeof list / sizeof *list, written, sizeof written);
+    return nothing;
+}
+
+/* Merges the written file with itself. */
+static void *merge(void *nothing)
+{
+    merged_length = guarddesk_merge(written, (size_t)written_length, written, (size_t)written_length, merged, sizeof merged);
     return nothing;
 }
 
@@ -95,6 +102,10 @@ int main(int many, char **words)
     const size_t write_used = used(write_file);
     printf("write %zu bytes: a file of %d bytes\n", write_used, (int)written_length);
     if (written_length < 0)
+        return 1;
+    const size_t merge_used = used(merge);
+    printf("merge %zu bytes: a file of %d bytes\n", merge_used, (int)merged_length);
+    if (merged_length < 0)
         return 1;
     const size_t decided = used(decide);
     printf("decide %zu bytes: verdict %u, %u\n", decided, (unsigned)answer[0], (unsigned)answer[1]);

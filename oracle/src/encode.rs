@@ -63,7 +63,8 @@ impl Draft {
         }
     }
 
-    fn push(&mut self, row: Row, ty: usize) -> usize {
+    /// A row of this type.
+    pub fn push(&mut self, row: Row, ty: usize) -> usize {
         self.rows.push(row);
         self.row_types.push(ty);
         self.rows.len() - 1

@@ -8,8 +8,9 @@ use std::process::ExitCode;
 
 use oracle::answer::{answer, answer_to};
 use oracle::guard::{Guard, Limits};
+use oracle::merge::{self, Refusal};
 use oracle::read::Question;
-use oracle::vectors::{self, lists, records, Vector, USUAL_BUDGET};
+use oracle::vectors::{self, lists, merges, records, Vector, USUAL_BUDGET};
 use oracle::{list, read, record, smt, tables, text};
 
 const USAGE: &str = "\
@@ -21,10 +22,13 @@ usage: oracle answer FILE [--budget N]        the answer to a guard file
        oracle list FILE                       the numbers of a guard file, constants as
                                               their values
        oracle write LIST                      the guard file of such numbers, in hexadecimal
+       oracle merge FIRST SECOND              the two guards as one file, in hexadecimal
        oracle vectors [--check] DIR           writes or checks DIR/vectors.txt
        oracle records [--check] DIR           writes or checks DIR/records.txt, with
                                               guards of DIR/vectors.txt
        oracle lists [--check] DIR             writes or checks DIR/lists.txt, with
+                                              guards of DIR/vectors.txt
+       oracle merges [--check] DIR            writes or checks DIR/merges.txt, with
                                               guards of DIR/vectors.txt
        oracle pack VECTORS OUT                packs vectors into one binary file
        oracle tables [--check] VECTORS DIR    writes or checks DIR/stdin, the packed
@@ -33,7 +37,7 @@ usage: oracle answer FILE [--budget N]        the answer to a guard file
        oracle walks [--check] VECTORS DIR     the same, with the answer to each in a line
        oracle answers [--check] VECTORS DIR   writes or checks DIR/stdin, and checks
                                               DIR/stdout, the whole answers of the desk
-FILE, OUTPUT, RECORD and LIST may be - for standard input. N is 1000000 if not given.";
+A FILE, OUTPUT, RECORD, LIST, FIRST or SECOND may be - for standard input. N is 1000000 if not given.";
 
 /// Why the program fails.
 enum Failure {
@@ -76,12 +80,15 @@ fn run(words: &[&str]) -> Result<(), Failure> {
         ["check-record", file, record] => check_record_command(file, record),
         ["list", file] => list_command(file),
         ["write", list] => write_command(list),
+        ["merge", first, second] => merge_command(first, second),
         ["vectors", "--check", dir] => check_kept(&VECTORS, dir),
         ["vectors", dir] => write_kept(&VECTORS, dir),
         ["records", "--check", dir] => check_kept(&RECORDS, dir),
         ["records", dir] => write_kept(&RECORDS, dir),
         ["lists", "--check", dir] => check_kept(&LISTS, dir),
         ["lists", dir] => write_kept(&LISTS, dir),
+        ["merges", "--check", dir] => check_kept(&MERGES, dir),
+        ["merges", dir] => write_kept(&MERGES, dir),
         ["pack", vectors, out] => pack_command(vectors, out),
         ["tables", "--check", vectors, dir] => check_run(vectors, dir, tables::summaries),
         ["tables", vectors, dir] => write_run(vectors, dir, tables::summaries),
@@ -115,7 +122,10 @@ fn load(path: &str) -> Result<Vec<u8>, Failure> {
 }
 
 fn load_text(path: &str) -> Result<String, Failure> {
-    let bytes = load(path)?;
+    as_text(path, load(path)?)
+}
+
+fn as_text(path: &str, bytes: Vec<u8>) -> Result<String, Failure> {
     String::from_utf8(bytes).map_err(|_| Failure::Wrong(format!("{path} isn't UTF-8 text")))
 }
 
@@ -135,13 +145,19 @@ fn answer_command(file: &str, budget: u32) -> Result<(), Failure> {
     print(&format!("{answer}\n"))
 }
 
-/// A guard file and a text about it.
-fn load_both(file: &str, text: &str) -> Result<(Vec<u8>, String), Failure> {
-    if file == "-" && text == "-" {
+/// Two files.
+fn load_two(first: &str, second: &str) -> Result<(Vec<u8>, Vec<u8>), Failure> {
+    if first == "-" && second == "-" {
         let why = "only one of the two files can be standard input";
         return Err(Failure::Usage(why.to_string()));
     }
-    Ok((load(file)?, load_text(text)?))
+    Ok((load(first)?, load(second)?))
+}
+
+/// A guard file and a text about it.
+fn load_both(file: &str, text: &str) -> Result<(Vec<u8>, String), Failure> {
+    let (bytes, about) = load_two(file, text)?;
+    Ok((bytes, as_text(text, about)?))
 }
 
 fn check_command(file: &str, output: &str, budget: u32) -> Result<(), Failure> {
@@ -197,6 +213,16 @@ fn write_command(path: &str) -> Result<(), Failure> {
     print(&format!("{}\n", vectors::hex(&file)))
 }
 
+fn merge_command(first: &str, second: &str) -> Result<(), Failure> {
+    let (first, second) = load_two(first, second)?;
+    let merged = merge::merge(&first, &second, Limits::BASE).map_err(|refusal| match refusal {
+        Refusal::First(question) => refused("first file", question),
+        Refusal::Second(question) => refused("second file", question),
+        _ => Failure::Wrong(format!("the merge is REFUSED {}", refusal.number())),
+    })?;
+    print(&format!("{}\n", vectors::hex(&merged)))
+}
+
 /// A file of test data, which is made anew to be written or compared.
 struct Kept {
     name: &'static str,
@@ -230,6 +256,15 @@ const LISTS: Kept = Kept {
     make: |dir| {
         let all = lists::all(&vectors_of(dir)?).map_err(Failure::Wrong)?;
         Ok((lists::text(&all), all.len()))
+    },
+};
+
+const MERGES: Kept = Kept {
+    name: "merges.txt",
+    what: "merges",
+    make: |dir| {
+        let all = merges::all(&vectors_of(dir)?).map_err(Failure::Wrong)?;
+        Ok((merges::text(&all), all.len()))
     },
 };
 

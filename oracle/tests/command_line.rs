@@ -79,7 +79,7 @@ fn checks_printed_answers() {
 
 #[test]
 fn wrong_use_is_said() {
-    let cases: [&[&str]; 31] = [
+    let cases: [&[&str]; 36] = [
         &[],
         &["nonsense"],
         &["answer"],
@@ -99,11 +99,16 @@ fn wrong_use_is_said() {
         &["list"],
         &["list", "no such file"],
         &["write", "no such file"],
+        &["merge", "-"],
+        &["merge", "-", "-"],
+        &["merge", "-", "no such file"],
         &["vectors", "--check", "no such directory"],
         &["records", "no such directory"],
         &["records", "--check", "no such directory"],
         &["lists", "no such directory"],
         &["lists", "--check", "no such directory"],
+        &["merges", "no such directory"],
+        &["merges", "--check", "no such directory"],
         &["pack", "no such file", "out"],
         &["tables", "no such file", "."],
         &["tables", "--check", "no such file", "."],
@@ -169,6 +174,27 @@ fn checks_records() {
     }
 }
 
+#[test]
+fn merges_two_files() {
+    let file = scratch("merge").join("c");
+    fs::write(&file, C).expect("written");
+    let file = file.display().to_string();
+    let output = oracle(&["merge", &file, "-"], C);
+    assert_eq!(
+        printed(&output),
+        "02000200020001030001030001010300010102000001000002\n"
+    );
+    for (words, input, why) in [
+        (["merge", &file, "-"], &[7][..], "second file is REFUSED 4"),
+        (["merge", "-", &file], &[], "the first file is REFUSED 2"),
+        (["merge", "-", &file], &[0, 0, 0], "the merge is REFUSED 15"),
+    ] {
+        let output = oracle(&words, input);
+        assert_eq!(output.status.code(), Some(1), "{why}");
+        assert!(String::from_utf8_lossy(&output.stderr).contains(why));
+    }
+}
+
 /// A file that is made from the vectors: written anew it is the kept one, and
 /// a wrong one is told.
 fn made_and_checked(command: &str) {
@@ -199,6 +225,11 @@ fn records_are_written_and_checked() {
 #[test]
 fn lists_are_written_and_checked() {
     made_and_checked("lists");
+}
+
+#[test]
+fn merges_are_written_and_checked() {
+    made_and_checked("merges");
 }
 
 /// Document 01's case j: the values −3 and 4.

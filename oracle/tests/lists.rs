@@ -1,27 +1,22 @@
 //! Lists of request #102: those of accepted files, and the kept ones.
 
+mod kept;
+
 use std::collections::BTreeMap;
-use std::fs;
-use std::path::Path;
 
 use oracle::encode::Role;
 use oracle::guard::Limits;
 use oracle::list::{self, LONGEST_FILE};
 use oracle::random::{draft, Random};
 use oracle::read::{read, Question};
-use oracle::vectors::lists::{answer, damaged, parse, text, Written};
+use oracle::vectors::lists::{damaged, parse, text, Written};
 use oracle::vectors::{self, profiles};
-
-fn load(name: &str) -> String {
-    let dir = Path::new(env!("CARGO_MANIFEST_DIR")).join("../vectors");
-    fs::read_to_string(dir.join(name)).expect("the file is there")
-}
 
 /// "An accepted file, read and written, has the same bytes."
 #[test]
 fn accepted_files_are_written_again() {
     let mut accepted = 0;
-    let vectors = vectors::parse(&load("vectors.txt")).expect("the vectors are readable");
+    let vectors = vectors::parse(&kept::file("vectors.txt")).expect("the vectors are readable");
     for vector in vectors {
         let numbers = list::numbers(&vector.file, Limits::BASE);
         match vector.answer.strip_prefix("REFUSED ") {
@@ -81,10 +76,7 @@ fn small_numbers_are_their_own_bytes() {
 }
 
 fn kept() -> Vec<Written> {
-    let kept = load("lists.txt");
-    let lists = parse(&kept).expect("the lists are readable");
-    assert_eq!(text(&lists), kept, "written back, they are the same");
-    lists
+    kept::load("lists.txt", parse, text)
 }
 
 #[test]
@@ -92,15 +84,14 @@ fn kept_answers_are_those_of_the_writer() {
     let mut refused: BTreeMap<u8, usize> = BTreeMap::new();
     let (mut files, mut exact, mut longest) = (0, 0, 0);
     for written in kept() {
-        assert_eq!(answer(&written.list, written.room), written.answer);
-        match written.answer {
+        match kept::answered(&written) {
             Ok(file) => {
-                assert!(read(&file, Limits::BASE).is_ok(), "{}", written.name);
+                assert!(read(file, Limits::BASE).is_ok(), "{}", written.name);
                 files += 1;
                 exact += usize::from(file.len() == written.room);
                 longest = longest.max(file.len());
             }
-            Err(question) => *refused.entry(question).or_default() += 1,
+            Err(question) => *refused.entry(*question).or_default() += 1,
         }
     }
     let questions: Vec<u8> = refused.keys().copied().collect();
@@ -113,6 +104,5 @@ fn kept_answers_are_those_of_the_writer() {
 
 #[test]
 fn kept_lists_are_sorted_by_their_names() {
-    let names: Vec<String> = kept().into_iter().map(|written| written.name).collect();
-    assert!(names.windows(2).all(|pair| pair[0] < pair[1]));
+    assert!(kept::sorted(&kept()));
 }

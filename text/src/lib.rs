@@ -3,6 +3,7 @@
 
 #![warn(missing_debug_implementations, unreachable_pub)]
 
+pub mod both;
 pub mod branches;
 pub mod check;
 pub mod decode;

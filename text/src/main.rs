@@ -5,20 +5,23 @@ use std::fs;
 use std::io::{self, Read, Write};
 use std::process::ExitCode;
 
+use guardtext::both::{self, both, Part};
 use guardtext::branches::branches;
 use guardtext::check::Source;
 use guardtext::decode::decode;
 use guardtext::desk::{decide, explain, Answer};
 use guardtext::encode::{encode, hex};
-use guardtext::show::show;
+use guardtext::show::{show, show_of};
 use guardtext::write::write;
 
 const USAGE: &str = "\
 usage: guardtext decide FILE [--budget N]   the desk's answer to a text
        guardtext explain FILE [--budget N]  the same, with all branches after UNSAT
+       guardtext both FIRST SECOND [--budget N]
+                                            whether both guards can hold at once
        guardtext encode FILE [--hex]        the guard file of a text
        guardtext text FILE                  the text of a guard file or its hex
-FILE may be - for standard input. N is 1000000 if not given.";
+FILE may be - for standard input, and so may FIRST or SECOND. N is 1000000 if not given.";
 
 /// Why the program fails.
 enum Failure {
@@ -53,8 +56,14 @@ fn main() -> ExitCode {
 /// What a command line asks for.
 struct Options {
     file: String,
+    /// Of `both` only.
+    second: String,
     budget: u32,
     hex: bool,
+}
+
+fn is_file(word: &str) -> bool {
+    word == "-" || !word.starts_with('-')
 }
 
 fn run(words: &[String]) -> Result<(), Failure> {
@@ -64,6 +73,7 @@ fn run(words: &[String]) -> Result<(), Failure> {
     };
     let mut options = Options {
         file: String::new(),
+        second: String::new(),
         budget: 1_000_000,
         hex: false,
     };
@@ -71,14 +81,17 @@ fn run(words: &[String]) -> Result<(), Failure> {
     while let Some(word) = words.next() {
         match (word.as_str(), command.as_str()) {
             ("--hex", "encode") => options.hex = true,
-            ("--budget", "decide" | "explain") => {
+            ("--budget", "decide" | "explain" | "both") => {
                 let budget = words.next().and_then(|word| word.parse().ok());
                 let most = u32::MAX;
                 let why = format!("--budget needs a number from 0 to {most}");
                 options.budget = budget.ok_or_else(|| unclear(&why))?;
             }
-            (file, _) if options.file.is_empty() && (file == "-" || !file.starts_with('-')) => {
+            (file, _) if options.file.is_empty() && is_file(file) => {
                 options.file = file.to_string();
+            }
+            (file, "both") if options.second.is_empty() && is_file(file) => {
+                options.second = file.to_string();
             }
             (other, _) => return Err(unclear(&format!("{other} isn't expected"))),
         }
@@ -89,6 +102,11 @@ fn run(words: &[String]) -> Result<(), Failure> {
     match command.as_str() {
         "decide" => decide_command(&options),
         "explain" => explain_command(&options),
+        "both" if options.second.is_empty() => Err(unclear("SECOND is missing")),
+        "both" if options.file == "-" && options.second == "-" => {
+            Err(unclear("only one of the two can be standard input"))
+        }
+        "both" => both_command(&options),
         "encode" => encode_command(&options),
         "text" => text_command(&options),
         other => Err(unclear(&format!("there is no command {other}"))),
@@ -148,21 +166,53 @@ fn print_answer(answer: &Answer, shown: &str) -> Result<(), Failure> {
     }
 }
 
+fn both_command(options: &Options) -> Result<(), Failure> {
+    let (first, second) = (source(&options.file)?, source(&options.second)?);
+    let files = (
+        file_of(&options.file, &first)?,
+        file_of(&options.second, &second)?,
+    );
+    let first = Part {
+        path: &options.file,
+        source: &first,
+        file: &files.0,
+    };
+    let second = Part {
+        path: &options.second,
+        source: &second,
+        file: &files.1,
+    };
+    let (file, merged) = match both(&first, &second) {
+        Ok(merged) => merged,
+        Err(both::Failure::Refused(question, fault)) => {
+            print(format!("REFUSED {question}, {}, {fault}\n", second.path).as_bytes())?;
+            return Err(Failure::Refused);
+        }
+        Err(both::Failure::Names(fault)) => {
+            return Err(Failure::Wrong(format!("{}, {fault}", second.path)))
+        }
+        Err(both::Failure::Sense(why)) => return Err(Failure::Use(why)),
+    };
+    let answer = decide(&file, options.budget);
+    let shown = show_of(&merged, &answer, "both guards").map_err(Failure::Use)?;
+    print_answer(&answer, &shown)
+}
+
 fn encode_command(options: &Options) -> Result<(), Failure> {
     let source = source(&options.file)?;
-    let bytes = encode(&source.guard).map_err(|refusal| refused(options, &source, refusal.0))?;
+    let bytes = file_of(&options.file, &source)?;
     match options.hex {
         true => print(format!("{}\n", hex(&bytes)).as_bytes()),
         false => print(&bytes),
     }
 }
 
-/// A guard that has no file: the same words as those of `decide`.
-fn refused(options: &Options, source: &Source, question: u32) -> Failure {
-    match show(source, &Answer::Refused(question)) {
-        Ok(shown) => Failure::Wrong(format!("{}, {}", options.file, shown.trim_end())),
+/// The guard file of a text, or the same words as those of `decide` where there is none.
+fn file_of(path: &str, source: &Source) -> Result<Vec<u8>, Failure> {
+    encode(&source.guard).map_err(|refusal| match show(source, &Answer::Refused(refusal.0)) {
+        Ok(shown) => Failure::Wrong(format!("{path}, {}", shown.trim_end())),
         Err(why) => Failure::Use(why),
-    }
+    })
 }
 
 fn text_command(options: &Options) -> Result<(), Failure> {

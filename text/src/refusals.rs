@@ -101,7 +101,11 @@ fn within_types(source: &Source) -> Option<Fault> {
 }
 
 /// What is said of things that are more than the limit, at the first too many.
-fn too_many(all: &[Place], limit: usize, why: impl Fn(usize) -> String) -> Option<Fault> {
+pub(crate) fn too_many(
+    all: &[Place],
+    limit: usize,
+    why: impl Fn(usize) -> String,
+) -> Option<Fault> {
     let at = *all.get(limit)?;
     let why = why(all.len());
     Some(Fault::new(at, format!("{why}; this is the first too many")))

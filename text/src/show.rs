@@ -14,6 +14,11 @@ const IN_FULL: u64 = 100_000;
 
 /// What is printed for an answer. The error is for an answer that can't be one.
 pub fn show(source: &Source, answer: &Answer) -> Result<String, String> {
+    show_of(source, answer, "this guard")
+}
+
+/// The same, with words for what was asked about.
+pub fn show_of(source: &Source, answer: &Answer, what: &str) -> Result<String, String> {
     match answer {
         Answer::Refused(question) => {
             let fault = explain(source, *question)?;
@@ -32,9 +37,7 @@ pub fn show(source: &Source, answer: &Answer) -> Result<String, String> {
         }
         Answer::Unsat { nodes, splits } => {
             let nodes = counted(*nodes, *splits);
-            Ok(format!(
-                "UNSAT, {nodes}: no messages make this guard hold\n"
-            ))
+            Ok(format!("UNSAT, {nodes}: no messages make {what} hold\n"))
         }
         Answer::Spent { budget, splits } => {
             let nodes = counted(*budget, *splits);

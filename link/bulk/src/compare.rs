@@ -7,6 +7,7 @@ use crate::counts::Counts;
 use crate::desk::{Desk, Lent};
 use crate::files::Maker;
 use crate::known::Known;
+use crate::merges::Merger;
 use crate::mismatch::Mismatch;
 use crate::writes::Writer;
 use guarddesk::raw;
@@ -68,6 +69,7 @@ pub struct Comparer<D> {
     answer: Buffer<u32>,
     checker: Checker,
     writer: Writer,
+    merger: Merger,
 }
 
 impl<D: Desk> Comparer<D> {
@@ -85,6 +87,7 @@ impl<D: Desk> Comparer<D> {
             record: Buffer::new(random, record, |n| n as u8),
             checker: Checker::new(maker),
             writer: Writer::new(random),
+            merger: Merger::new(random, maker),
         }
     }
 
@@ -110,7 +113,10 @@ impl<D: Desk> Comparer<D> {
             .compare(&self.desk, random, file, &known, checked)?;
         let written = &mut counts.written;
         self.writer
-            .compare(&self.desk, random, file, &known, written)
+            .compare(&self.desk, random, file, &known, written)?;
+        let merged = &mut counts.merged;
+        self.merger
+            .compare(&self.desk, random, file, &known, merged)
     }
 
     /// One call, and the number of rows shown.

@@ -107,9 +107,9 @@ impl fmt::Display for Calls {
     }
 }
 
-/// Counts of the checker's or the writer's answers, by number; 0 is that of what is accepted.
+/// Counts of the checker's, the writer's or the merge's answers, by number; 0 is that of what is accepted.
 #[derive(Clone, Copy, Debug, Default, PartialEq, Eq)]
-pub struct Numbered(pub [u64; 15]);
+pub struct Numbered(pub [u64; 17]);
 
 impl Numbered {
     /// An answer that was right.
@@ -140,6 +140,7 @@ pub struct Counts {
     pub explained: Calls,
     pub checked: Numbered,
     pub written: Numbered,
+    pub merged: Numbered,
     pub most_nodes: u32,
     pub most_rows: usize,
     /// In bytes.
@@ -175,6 +176,7 @@ impl Counts {
         self.explained.merge(&other.explained);
         merge_all(&mut self.checked.0, &other.checked.0);
         merge_all(&mut self.written.0, &other.written.0);
+        merge_all(&mut self.merged.0, &other.merged.0);
         self.most_nodes = self.most_nodes.max(other.most_nodes);
         self.most_rows = self.most_rows.max(other.most_rows);
         self.longest_record = self.longest_record.max(other.longest_record);
@@ -189,6 +191,7 @@ impl fmt::Display for Counts {
             explained,
             checked,
             written,
+            merged,
             ..
         } = self;
         write!(f, "files {}: {files}", files.total())?;
@@ -196,6 +199,7 @@ impl fmt::Display for Counts {
         write!(f, "explain {}: {explained}", explained.total())?;
         write!(f, "check {}: {checked}", checked.total())?;
         write!(f, "write {}: {written}", written.total())?;
+        write!(f, "merge {}: {merged}", merged.total())?;
         let (nodes, rows, record) = (self.most_nodes, self.most_rows, self.longest_record);
         writeln!(
             f,

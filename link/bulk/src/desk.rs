@@ -35,6 +35,10 @@ pub trait Desk {
     fn write(&self, list: &[i64], out: &mut [u8]) -> i64 {
         raw::write_into(list, out)
     }
+
+    fn merge(&self, first: &[u8], second: &[u8], out: &mut [u8]) -> i64 {
+        raw::merge_into(first, second, out)
+    }
 }
 
 #[derive(Clone, Copy)]
@@ -80,6 +84,14 @@ pub mod planted {
     impl<W: Fn(&[i64], &mut [u8]) -> i64> Desk for Write<W> {
         fn write(&self, list: &[i64], out: &mut [u8]) -> i64 {
             (self.0)(list, out)
+        }
+    }
+
+    pub struct Merge<M>(pub M);
+
+    impl<M: Fn(&[u8], &[u8], &mut [u8]) -> i64> Desk for Merge<M> {
+        fn merge(&self, first: &[u8], second: &[u8], out: &mut [u8]) -> i64 {
+            (self.0)(first, second, out)
         }
     }
 }

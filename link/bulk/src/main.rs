@@ -12,8 +12,10 @@ mod desk;
 mod files;
 mod known;
 mod library;
+mod merges;
 mod mismatch;
 mod orders;
+mod outputs;
 mod smt;
 mod writes;
 
@@ -23,6 +25,7 @@ use desk::{Desk, Library};
 use files::Maker;
 use mismatch::Mismatch;
 use oracle::random::Random;
+use oracle::vectors::merges::Pair;
 use std::fs;
 use std::process::ExitCode;
 use std::sync::atomic::{AtomicU64, Ordering};
@@ -33,10 +36,11 @@ const USAGE: &str = "\
 usage: bulk [smt] [--files N] [--seed S] [--threads T] [--limit NODES]
        bulk records FILE
        bulk lists FILE
+       bulk merges FILE
 N files (20000) from the seed S (1) in T threads (1). Guards of more nodes than the limit (20000, at most 1000000) are
 compared with budgets up to it only; SPENT in the line of files counts them. With smt nothing is compared: the guards are
 printed in SMT-LIB 2, each with the library's verdict, those within the limit only. With records the library's checker
-answers the lines of records.txt, with lists its writer those of lists.txt.";
+answers the lines of records.txt, with lists its writer those of lists.txt, with merges its merge those of merges.txt.";
 
 /// The stack of a thread: what a call needs, and plenty for the solver.
 const STACK: usize = 8 << 20;
@@ -144,7 +148,8 @@ fn main() -> ExitCode {
     let command: Vec<&str> = words.iter().map(String::as_str).collect();
     match command[..] {
         ["records", path] => return compare_lines(path, "check", checks::compare_lines),
-        ["lists", path] => return compare_lines(path, "write", writes::compare_lines),
+        ["lists", path] => return compare_lines(path, "write", outputs::compare_lines::<Vec<i64>>),
+        ["merges", path] => return compare_lines(path, "merge", outputs::compare_lines::<Pair>),
         ["smt", ..] => options(&words[1..]).map(|options| print_smt(&options)),
         _ => options(&words).map(|options| compare_files(&options)),
     }
@@ -239,10 +244,11 @@ mod tests {
             assert!(calls.too_short > 0);
         }
         assert!(counts.decided.outgrown == 0 && counts.explained.outgrown > 0);
-        // Questions that the checker and the writer don't ask.
-        let never: [(Numbered, &[usize]); 2] = [
-            (counts.checked, &[1, 11, 14]),
-            (counts.written, &[1, 3, 11, 12, 13]),
+        // Questions that the checker, the writer and the merge don't ask.
+        let never: [(Numbered, &[usize]); 3] = [
+            (counts.checked, &[1, 11, 14, 15, 16]),
+            (counts.written, &[1, 3, 11, 12, 13, 15, 16]),
+            (counts.merged, &[1, 11, 12, 13]),
         ];
         for (numbered, never) in never {
             for (answer, many) in numbered.0.into_iter().enumerate() {

@@ -1,8 +1,8 @@
 //! The guard desk for Rust programs: whether a guard over message fields can hold at all and, where it can, messages that
 //! make it hold.
 //!
-//! [`decide`], [`explain`], [`check`] and [`write()`] are safe functions over the proved library `libdesklink.a`. What that library
-//! gives is proved for every file, budget, record and list; what this crate makes of it (types, text) is tested. A guard file is at
+//! [`decide`], [`explain`], [`check`], [`write()`] and [`merge`] are safe functions over the proved library `libdesklink.a`. What that
+//! library gives is proved for every file, budget, record and list; what this crate makes of it (types, text) is tested. A guard file is at
 //! most 585 bytes long; its format is that of document 01, with values over 64 bits.
 //!
 //! ```
@@ -17,17 +17,20 @@
 //! ```
 //!
 //! [`explain`] has the branches of a guard that cannot hold, and [`check`] takes their record. [`write()`] makes guard files from
-//! lists of their numbers.
+//! lists of their numbers, [`merge`] one of two guards that have to hold at once.
 //!
 //! A call needs 820 KB of stack: the main thread and threads that [`std::thread::spawn`] makes by default have more.
 
 mod fields;
+mod merging;
 mod messages;
 mod numbers;
+mod questions;
 pub mod raw;
 mod refutations;
 mod writer;
 
+pub use merging::{merge, MergeRefusal};
 pub use messages::{Kind, Message, Messages, Named, Names, Parts};
 pub use refutations::{check, Branch, Question, Reason, Refutation, Term};
 pub use writer::{write, Refusal};

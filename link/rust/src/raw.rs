@@ -1,6 +1,6 @@
-//! The library's four functions over the caller's own buffers, for programs that keep buffers between calls or look at every
+//! The library's five functions over the caller's own buffers, for programs that keep buffers between calls or look at every
 //! number of them. The only unsafe code of the crate. [`decide`](crate::decide), [`explain`](crate::explain),
-//! [`check`](crate::check) and [`write`](crate::write) are easier to use.
+//! [`check`](crate::check), [`write`](crate::write) and [`merge`](crate::merge) are easier to use.
 //!
 //! ```
 //! use guarddesk::raw::{decide_into, ANSWERED, ANSWER_LENGTH, PLACES_LENGTH, ROWS_LENGTH, SAT};
@@ -79,6 +79,15 @@ extern "C" {
     fn guarddesk_write(
         list: *const i64,
         list_length: usize,
+        out: *mut u8,
+        out_length: usize,
+    ) -> i64;
+
+    fn guarddesk_merge(
+        first: *const u8,
+        first_length: usize,
+        second: *const u8,
+        second_length: usize,
         out: *mut u8,
         out_length: usize,
     ) -> i64;
@@ -169,6 +178,28 @@ pub fn check(file: &[u8], record: &[u8]) -> u32 {
 pub fn write_into(list: &[i64], out: &mut [u8]) -> i64 {
     // SAFETY: as in `decide_into`; `out` is written and borrowed mutably.
     unsafe { guarddesk_write(list.as_ptr(), list.len(), out.as_mut_ptr(), out.len()) }
+}
+
+/// Merges two guard files in front of `out`: the first's rows, then the second's but for the variables that both have, then the
+/// lines of both. Files and a buffer of any length are safe.
+///
+/// It returns the number of bytes of the merged file; those behind them are zero. [`FILE_LENGTH`] bytes always suffice. A number
+/// below 0 is minus the first question that got a no, 2 to 10 of the first file and then of the second, 15 if the types differ, 16
+/// if two variables taken as one differ in type, 4 if there are too many rows or lines, or 14 if the merged file outgrows `out`;
+/// then all of `out` is zero. `link/guarddesk.h` has the details.
+#[allow(unsafe_code)]
+pub fn merge_into(first: &[u8], second: &[u8], out: &mut [u8]) -> i64 {
+    // SAFETY: as in `decide_into`; `out` is written and borrowed mutably, the files may overlap since they are only read.
+    unsafe {
+        guarddesk_merge(
+            first.as_ptr(),
+            first.len(),
+            second.as_ptr(),
+            second.len(),
+            out.as_mut_ptr(),
+            out.len(),
+        )
+    }
 }
 
 #[cfg(test)]
@@ -320,6 +351,41 @@ mod tests {
             out.fill(7);
             assert_eq!(write_into(&[DEAD_LIST, &[0]].concat(), &mut out), -10);
             assert!(out.iter().all(|&n| n == 0));
+        }
+    }
+
+    // The dead guard with itself: its two numbers and its line twice, the second time renumbered.
+    const DEAD_TWICE: &[u8] = &[
+        1, 0, 4, 1, 0, 5, 1, 0, 8, 1, 0, 5, 1, 0, 8, 2, 0, 0, 1, 0, 2, 3,
+    ];
+
+    #[test]
+    fn a_merged_file_has_zeros_behind_it() {
+        let length = DEAD_TWICE.len();
+        for room in [length, length + 1, FILE_LENGTH, 1000] {
+            let mut out = vec![7; room];
+            assert_eq!(merge_into(DEAD, DEAD, &mut out), length as i64);
+            assert_eq!(&out[..length], DEAD_TWICE);
+            assert!(out[length..].iter().all(|&n| n == 0));
+        }
+    }
+
+    #[test]
+    fn refused_merges_leave_zeros() {
+        // Too short an output; no file in either place; other types.
+        let other: &[u8] = &[1, 1, 0, 0, 0];
+        for (first, second, code) in [
+            (DEAD, DEAD, -14),
+            (&[][..], DEAD, -2),
+            (DEAD, &[7][..], -4),
+            (&[7], &[], -4),
+            (DEAD, other, -15),
+        ] {
+            for room in [0, 1, DEAD_TWICE.len() - 1] {
+                let mut out = vec![7; room];
+                assert_eq!(merge_into(first, second, &mut out), code);
+                assert!(out.iter().all(|&n| n == 0));
+            }
         }
     }
 }

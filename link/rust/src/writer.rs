@@ -1,5 +1,6 @@
 //! Guard files from lists of their numbers.
 
+use crate::questions::{file_of, why};
 use crate::raw;
 use std::fmt;
 
@@ -11,14 +12,8 @@ impl fmt::Display for Refusal {
     fn fmt(&self, f: &mut fmt::Formatter<'_>) -> fmt::Result {
         let why = match self.0 {
             2 => "the list ends before the guard does",
-            4 => "a count is outside its limits",
-            5 => "something named is not there",
-            6 => "a kind is none of those listed",
-            7 => "a type does not fit",
-            8 => "a type has no default",
-            9 => "a variant with fields has none of infinite type",
             10 => "numbers follow the last line",
-            _ => "the file does not fit into its buffer",
+            question => why(question),
         };
         write!(f, "question {}: {why}", self.0)
     }
@@ -40,15 +35,7 @@ impl std::error::Error for Refusal {}
 /// # Ok::<(), Refusal>(())
 /// ```
 pub fn write(numbers: &[i64]) -> Result<Vec<u8>, Refusal> {
-    let mut file = vec![0; raw::FILE_LENGTH];
-    let code = raw::write_into(numbers, &mut file);
-    match usize::try_from(code) {
-        Ok(many) => {
-            file.truncate(many);
-            Ok(file)
-        }
-        Err(_) => Err(Refusal(code.unsigned_abs() as u32)),
-    }
+    file_of(|out| raw::write_into(numbers, out)).map_err(Refusal)
 }
 
 #[cfg(test)]

@@ -1,6 +1,7 @@
-//! All vectors of the repository through the library: verdicts, node counts and splits, records, what the checker says of others, and files
-//! written from lists are those of the outside solver; and the records that the library writes are accepted.
-use guarddesk::{check, decide, explain, raw, write, Answer, Branch, Question, Refusal};
+//! All vectors of the repository through the library: verdicts, node counts and splits, records, what the checker says of others, files
+//! written from lists and merged files are those of the outside solver; and the records that the library writes are accepted.
+use guarddesk::{check, decide, explain, merge, raw, write};
+use guarddesk::{Answer, Branch, MergeRefusal, Question, Refusal};
 
 const VECTORS: &str = concat!(env!("CARGO_MANIFEST_DIR"), "/../../vectors");
 
@@ -12,8 +13,8 @@ fn bytes(hex: &str) -> Vec<u8> {
         .collect()
 }
 
-/// Calls `each` with the four columns of each line; there are more lines than `many`.
-fn for_each_line(file: &str, many: usize, each: impl Fn([&str; 4])) {
+/// Calls `each` with the columns of each line; there are more lines than `many`.
+fn for_each_line<const N: usize>(file: &str, many: usize, each: impl Fn([&str; N])) {
     let text = std::fs::read_to_string(format!("{VECTORS}/{file}")).unwrap();
     let lines = text.lines().filter(|line| !line.starts_with('#'));
     let columns = lines.map(|line| line.split('\t').collect::<Vec<_>>().try_into().expect(line));
@@ -99,29 +100,53 @@ fn check_all() {
     });
 }
 
+/// A call with an output buffer of its line's length gives the file or the refusal of the line, and zeros behind it. `whole` is the
+/// answer with a buffer that every file fits into.
+fn check_output(
+    [name, room, expected]: [&str; 3],
+    call: impl FnOnce(&mut [u8]) -> i64,
+    whole: Result<Vec<u8>, u32>,
+) {
+    let expected = match expected.strip_prefix("REFUSED ") {
+        Some(question) => Err(question.parse::<u32>().unwrap()),
+        None => Ok(bytes(expected)),
+    };
+    let mut out = vec![7; room.parse().unwrap()];
+    let code = call(&mut out);
+    let front = match &expected {
+        Ok(file) => (file.len() as i64, &file[..]),
+        Err(question) => (-i64::from(*question), &[][..]),
+    };
+    assert_eq!((code, &out[..front.1.len()]), front, "{name}");
+    assert!(out[front.1.len()..].iter().all(|&n| n == 0), "{name}");
+    match whole {
+        Ok(file) if expected == Err(14) => assert!(file.len() > out.len(), "{name}"),
+        whole => assert_eq!(whole, expected, "{name}"),
+    }
+}
+
 fn write_all() {
     for_each_line("lists.txt", 1000, |[name, room, list, expected]| {
         let list = if list == "-" { "" } else { list };
         let numbers = list.split_whitespace().map(|word| word.parse().unwrap());
         let numbers: Vec<i64> = numbers.collect();
-        let expected = match expected.strip_prefix("REFUSED ") {
-            Some(question) => Err(Refusal(question.parse().unwrap())),
-            None => Ok(bytes(expected)),
-        };
-        let mut out = vec![7; room.parse().unwrap()];
-        let code = raw::write_into(&numbers, &mut out);
-        let front = match &expected {
-            Ok(file) => (file.len() as i64, &file[..]),
-            Err(refusal) => (-i64::from(refusal.0), &[][..]),
-        };
-        assert_eq!((code, &out[..front.1.len()]), front, "{name}");
-        assert!(out[front.1.len()..].iter().all(|&n| n == 0), "{name}");
-        // Every file fits there.
-        match write(&numbers) {
-            Ok(file) if expected == Err(Refusal(14)) => assert!(file.len() > out.len(), "{name}"),
-            written => assert_eq!(written, expected, "{name}"),
-        }
+        let call = |out: &mut [u8]| raw::write_into(&numbers, out);
+        let whole = write(&numbers).map_err(|Refusal(question)| question);
+        check_output([name, room, expected], call, whole);
     });
+}
+
+fn merge_all() {
+    for_each_line(
+        "merges.txt",
+        1000,
+        |[name, room, first, second, expected]| {
+            let (first, second) = (bytes(first), bytes(second));
+            let call = |out: &mut [u8]| raw::merge_into(&first, &second, out);
+            let whole = merge(&first, &second).map_err(|MergeRefusal(question)| question);
+            check_output([name, room, expected], call, whole);
+        },
+    );
 }
 
 /// In a thread with the stack that the crate's documentation asks for.
@@ -148,6 +173,11 @@ fn the_checkers_answers() {
 #[test]
 fn files_of_all_lists() {
     in_the_stack_asked_for(write_all);
+}
+
+#[test]
+fn merged_files_of_all_pairs() {
+    in_the_stack_asked_for(merge_all);
 }
 
 #[test]

@@ -5,11 +5,13 @@ mod cases;
 mod families;
 pub mod far;
 pub mod lists;
+pub mod merges;
 mod numbers;
 pub mod profiles;
 pub mod records;
 mod splits;
 mod walks;
+pub mod written;
 
 use crate::answer::{answer, Answer};
 use crate::encode::Draft;
@@ -130,7 +132,7 @@ fn parse_lines<T>(
         .collect()
 }
 
-/// The columns of a line; there are four in each file.
+/// The columns of a line; there are four.
 fn columns(line: &str) -> Option<[&str; 4]> {
     let columns: Vec<&str> = line.split('\t').collect();
     columns.try_into().ok()

@@ -3,12 +3,12 @@
 
 mod damage;
 
-use super::{hex, is_drawn_from, unhex, Vector};
-use crate::encode::{self, Draft, Token};
+use super::written::{self, one_of, sources, Answer, Input, Source};
+use super::{is_drawn_from, Vector};
+use crate::encode::{self, Token};
 use crate::guard::Limits;
 use crate::list::{self, LONGEST_FILE};
 use crate::random::{edge_value, far_value, Random};
-use crate::read::read;
 
 /// Of the accepted vectors each so many'th has its list kept, and each case of
 /// document 01.
@@ -25,55 +25,34 @@ const HEADER: &str = "\
 # file in hexadecimal, or REFUSED and the refusal's number.
 ";
 
-/// The file of a list, or the number of its refusal.
-pub type Answer = Result<Vec<u8>, u8>;
-
 /// A list with the writer's answer.
-#[derive(Clone, Debug, PartialEq, Eq)]
-pub struct Written {
-    pub name: String,
-    /// The length of the output buffer.
-    pub room: usize,
-    pub list: Vec<i64>,
-    pub answer: Answer,
+pub type Written = written::Written<Vec<i64>>;
+
+type Set = written::Set<Vec<i64>>;
+
+impl Input for Vec<i64> {
+    const WHAT: &'static str = "a list";
+    const SEED: &'static str = "lists";
+
+    fn answer(&self, room: usize) -> Answer {
+        answer(self, room)
+    }
+
+    fn columns(&self) -> Vec<String> {
+        vec![list::text(self)]
+    }
+
+    fn parse(columns: &[&str]) -> Option<Vec<i64>> {
+        match columns {
+            [list] => list::parse(list),
+            _ => None,
+        }
+    }
 }
 
 /// The writer's answer.
 pub fn answer(list: &[i64], room: usize) -> Answer {
     list::write_within(list, room, Limits::BASE).map_err(|refusal| refusal.number())
-}
-
-/// An accepted file and its numbers.
-struct Source {
-    name: String,
-    file: Vec<u8>,
-    tokens: Vec<Token>,
-}
-
-impl Source {
-    fn of(vector: &Vector) -> Option<Source> {
-        let guard = read(&vector.file, Limits::BASE).ok()?;
-        Some(Source {
-            name: vector.name.clone(),
-            file: vector.file.clone(),
-            tokens: Draft::of(&guard).tokens(Limits::BASE),
-        })
-    }
-
-    fn list(&self) -> Vec<i64> {
-        list::of_tokens(&self.tokens)
-    }
-}
-
-/// The accepted ones of these vectors, each file once.
-fn sources(vectors: &[&Vector]) -> Vec<Source> {
-    let mut sources: Vec<Source> = Vec::new();
-    for source in vectors.iter().filter_map(|vector| Source::of(vector)) {
-        if sources.iter().all(|other| other.file != source.file) {
-            sources.push(source);
-        }
-    }
-    sources
 }
 
 /// Makes another list from the numbers of an accepted file, if they allow it.
@@ -121,15 +100,15 @@ pub fn damaged(random: &mut Random, tokens: &[Token]) -> Option<Vec<i64>> {
 /// All lists, sorted by name, or why they can't be made from these vectors.
 pub fn all(vectors: &[Vector]) -> Result<Vec<Written>, String> {
     let (drawn, later): (Vec<_>, Vec<_>) = vectors.iter().partition(|v| is_drawn_from(v));
-    let (sources, later) = (sources(&drawn), sources(&later));
+    let (sources, later) = (sources(drawn), sources(later));
     let mut set = Set::default();
-    set.whole(&sources)?;
-    set.values(&sources)?;
-    set.far(&sources, &later)?;
+    whole(&mut set, &sources)?;
+    values(&mut set, &sources)?;
+    far(&mut set, &sources, &later)?;
     for (name, many, answers, make) in FAMILIES {
         set.fill(name, many, |random| {
             let source = one_of(random, &sources)?;
-            let list = make(random, &source.tokens)?;
+            let list = make(random, &source.tokens())?;
             let settled = match answers {
                 Settled(question) => Some(Err(question)),
                 Taken(question) if answer(&list, ROOM) != Err(question) => return None,
@@ -138,159 +117,96 @@ pub fn all(vectors: &[Vector]) -> Result<Vec<Written>, String> {
             Some((list, ROOM, settled))
         })?;
     }
-    set.outputs(&sources)?;
-    set.0.sort_by(|a, b| a.name.cmp(&b.name));
-    Ok(set.0)
+    outputs(&mut set, &sources)?;
+    Ok(set.sorted())
 }
 
-fn one_of<'s>(random: &mut Random, sources: &'s [Source]) -> Option<&'s Source> {
-    let all: Vec<&Source> = sources.iter().collect();
-    random.pick(&all)
+fn list_of(source: &Source) -> Vec<i64> {
+    list::of_tokens(&source.tokens())
 }
 
-/// A list, the length of the output buffer, and the answer if the way they are
-/// made settles it.
-type New = (Vec<i64>, usize, Option<Answer>);
-
-/// A growing set of lists.
-#[derive(Default)]
-struct Set(Vec<Written>);
-
-impl Set {
-    fn add(&mut self, name: String, (list, room, expected): New) -> Result<(), String> {
-        let answer = answer(&list, room);
-        if let Some(expected) = expected.filter(|expected| *expected != answer) {
-            return Err(format!(
-                "{name}: answered {answer:?}, expected {expected:?}"
-            ));
+/// The lists of accepted vectors, in buffers that fit exactly and others.
+fn whole(set: &mut Set, sources: &[Source]) -> Result<(), String> {
+    for (i, source) in sources.iter().enumerate() {
+        let long = source.file.len() == ROOM;
+        if i % KEPT != 0 && !long && !source.name.starts_with("case-") {
+            continue;
         }
-        self.0.push(Written {
-            name,
-            room,
-            list,
-            answer,
-        });
-        Ok(())
+        let room = match i / KEPT % 3 {
+            0 => source.file.len(),
+            1 => ROOM,
+            _ => ROOM + i,
+        };
+        let new = (list_of(source), room, Some(Ok(source.file.clone())));
+        set.add(format!("of-{}", source.name), new)?;
     }
+    Ok(())
+}
 
-    fn fill(
-        &mut self,
-        name: &str,
-        many: usize,
-        make: impl FnMut(&mut Random) -> Option<New>,
-    ) -> Result<(), String> {
-        let made = super::different(&format!("lists-{name}"), many, make)?;
-        for (i, new) in made.into_iter().enumerate() {
-            self.add(format!("{name}-{i:02}"), new)?;
-        }
-        Ok(())
+/// Other constants, near the ends of each length that they may have.
+fn values(set: &mut Set, sources: &[Source]) -> Result<(), String> {
+    set.fill("value", 60, |random| {
+        let source = one_of(random, sources)?;
+        let tokens = damage::other_value(random, &source.tokens(), edge_value)?;
+        let file = encode::bytes(&tokens);
+        Some((list::of_tokens(&tokens), file.len(), Some(Ok(file))))
+    })
+}
+
+/// Request #104: the lists of its vectors and of later ones, values near
+/// the ends of each length beyond 32 bits, and output buffers that lack a
+/// byte of theirs.
+fn far(set: &mut Set, sources: &[Source], later: &[Source]) -> Result<(), String> {
+    for (i, source) in later.iter().enumerate() {
+        let room = match i % 3 {
+            0 => source.file.len(),
+            1 => LONGEST_FILE,
+            _ => LONGEST_FILE + i,
+        };
+        let new = (list_of(source), room, Some(Ok(source.file.clone())));
+        set.add(format!("of-{}", source.name), new)?;
     }
-
-    /// The lists of accepted vectors, in buffers that fit exactly and others.
-    fn whole(&mut self, sources: &[Source]) -> Result<(), String> {
-        for (i, source) in sources.iter().enumerate() {
-            let long = source.file.len() == ROOM;
-            if i % KEPT != 0 && !long && !source.name.starts_with("case-") {
-                continue;
-            }
-            let room = match i / KEPT % 3 {
-                0 => source.file.len(),
-                1 => ROOM,
-                _ => ROOM + i,
-            };
-            let new = (source.list(), room, Some(Ok(source.file.clone())));
-            self.add(format!("of-{}", source.name), new)?;
-        }
-        Ok(())
-    }
-
-    /// Other constants, near the ends of each length that they may have.
-    fn values(&mut self, sources: &[Source]) -> Result<(), String> {
-        self.fill("value", 60, |random| {
+    for (name, many, short) in [("far-constant", 60, 0), ("far-short-output", 20, 1)] {
+        set.fill(name, many, |random| {
             let source = one_of(random, sources)?;
-            let tokens = damage::other_value(random, &source.tokens, edge_value)?;
+            let tokens = damage::other_value(random, &source.tokens(), far_value)?;
             let file = encode::bytes(&tokens);
-            Some((list::of_tokens(&tokens), file.len(), Some(Ok(file))))
-        })
-    }
-
-    /// Request #104: the lists of its vectors and of later ones, values near
-    /// the ends of each length beyond 32 bits, and output buffers that lack a
-    /// byte of theirs.
-    fn far(&mut self, sources: &[Source], later: &[Source]) -> Result<(), String> {
-        for (i, source) in later.iter().enumerate() {
-            let room = match i % 3 {
-                0 => source.file.len(),
-                1 => LONGEST_FILE,
-                _ => LONGEST_FILE + i,
-            };
-            let new = (source.list(), room, Some(Ok(source.file.clone())));
-            self.add(format!("of-{}", source.name), new)?;
-        }
-        for (name, many, short) in [("far-constant", 60, 0), ("far-short-output", 20, 1)] {
-            self.fill(name, many, |random| {
-                let source = one_of(random, sources)?;
-                let tokens = damage::other_value(random, &source.tokens, far_value)?;
-                let file = encode::bytes(&tokens);
-                let room = file.len() - short;
-                let settled = if short == 0 { Ok(file) } else { Err(14) };
-                Some((list::of_tokens(&tokens), room, Some(settled)))
-            })?;
-        }
-        Ok(())
-    }
-
-    /// Output buffers that are too short, also for lists that are refused
-    /// before that is asked.
-    fn outputs(&mut self, sources: &[Source]) -> Result<(), String> {
-        self.fill("short-output", 60, |random| {
-            let source = one_of(random, sources)?;
-            let length = source.file.len();
-            let room = [0, random.below(length), length - 1, length - 1][random.below(4)];
-            Some((source.list(), room, Some(Err(14))))
+            let room = file.len() - short;
+            let settled = if short == 0 { Ok(file) } else { Err(14) };
+            Some((list::of_tokens(&tokens), room, Some(settled)))
         })?;
-        self.fill("refused-short-output", 36, |random| {
-            let source = one_of(random, sources)?;
-            let (_, _, answers, make) = FAMILIES[random.below(FAMILIES.len())];
-            let settled = match answers {
-                Settled(question) => Some(Err(question)),
-                Formerly => None,
-                Taken(_) | Any => return None,
-            };
-            let list = make(random, &source.tokens)?;
-            Some((list, random.below(3), settled))
-        })
     }
+    Ok(())
+}
+
+/// Output buffers that are too short, also for lists that are refused
+/// before that is asked.
+fn outputs(set: &mut Set, sources: &[Source]) -> Result<(), String> {
+    set.fill("short-output", 60, |random| {
+        let source = one_of(random, sources)?;
+        let length = source.file.len();
+        let room = [0, random.below(length), length - 1, length - 1][random.below(4)];
+        Some((list_of(source), room, Some(Err(14))))
+    })?;
+    set.fill("refused-short-output", 36, |random| {
+        let source = one_of(random, sources)?;
+        let (_, _, answers, make) = FAMILIES[random.below(FAMILIES.len())];
+        let settled = match answers {
+            Settled(question) => Some(Err(question)),
+            Formerly => None,
+            Taken(_) | Any => return None,
+        };
+        let list = make(random, &source.tokens())?;
+        Some((list, random.below(3), settled))
+    })
 }
 
 /// The lists as the text of `lists.txt`.
 pub fn text(all: &[Written]) -> String {
-    let mut text = HEADER.to_string();
-    for written in all {
-        let list = list::text(&written.list);
-        let answer = match &written.answer {
-            Ok(file) => hex(file),
-            Err(question) => format!("REFUSED {question}"),
-        };
-        text += &format!("{}\t{}\t{list}\t{answer}\n", written.name, written.room);
-    }
-    text
+    written::text(HEADER, all)
 }
 
 /// Reads the text of `lists.txt`.
 pub fn parse(text: &str) -> Result<Vec<Written>, String> {
-    super::parse_lines(text, "a list", parse_line)
-}
-
-fn parse_line(line: &str) -> Option<Written> {
-    let [name, room, list, answer] = super::columns(line)?;
-    Some(Written {
-        name: name.to_string(),
-        room: room.parse().ok()?,
-        list: list::parse(list)?,
-        answer: match answer.strip_prefix("REFUSED ") {
-            Some(question) => Err(question.parse().ok()?),
-            None => Ok(unhex(answer)?),
-        },
-    })
+    written::parse(text)
 }
