@@ -1,15 +1,19 @@
 -- What a writer of guard files answers and leaves: for a refusal, and for a guard whose bytes were put into a cleared buffer. Assumes nothing.
-use mathlib.Core.Path.{_≡_, ap, sym, _∙_}
+use mathlib.Core.Path.{_≡_, refl, ap, ap₂, sym, subst, _∙_}
 use mathlib.Core.Bool.{Bool, true, false, cond}
 use mathlib.Core.List.{List}
-use Prim.Native.Nat.{ℕ}
-use lib.ListN.{length, replicate}
+use Prim.Native.Nat.{ℕ, _-_, _≤_}
+use native.Mathlib.Omega.{arith}
+use lib.Dec.{leb}
+use lib.ListN.{length, replicate, take}
+use lib.Seq.{take-at}
+use Rattle.laws.proofs.Bools.{by-test}
 use Rattle.guard.specs.Guard.{Guard}
 use Rattle.guard.specs.Number.{Parsed, Parsed.accepted, Parsed.refused}
 use Rattle.serialize.specs.Tokens.{bytesOf}
 use Rattle.bytebuffer.specs.declared.End.{End}
 use Rattle.bytebuffer.specs.Puts.{Puts}
-use Rattle.bytebuffer.proofs.FillLaws.{ends-there, fills, fits-room, outgrows}
+use Rattle.bytebuffer.proofs.FillLaws.{ends-there, filled-with, fills, fits-room, outgrows}
 use Rattle.filewriter.specs.declared.FileWritten.{FileWritten}
 use Rattle.filewriter.specs.Writer.{answerTo, leftBy}
 
@@ -35,3 +39,24 @@ module _ {p : Parsed Guard} {g : Guard} {rest : List ℕ} (is : p ≡ accepted g
   -- they don't, and the buffer is cleared again
   pub answers-short : r .fits ≡ false → {last : List ℕ} → last ≡ replicate (length out′) 0 → Answers p (length out) (record { refused = 14; bytes = 0 }) last
   answers-short q e = (sym (by-room false q), outgrows out clear puts q e ∙ ap (λ (x : Parsed Guard). leftBy x (length out)) (sym is))
+
+-- ---- what an answer tells
+
+by-length : (g : Guard) (rest : List ℕ) (n : ℕ) (b : Bool) → leb (length (bytesOf g)) n ≡ b → answerTo (accepted g rest) n ≡ cond b (record { refused = 0; bytes = length (bytesOf g) }) (record { refused = 14; bytes = 0 })
+by-length g rest n b q = ap (λ (x : Bool). cond x (record { refused = 0; bytes = length (bytesOf g) }) (record { refused = 14; bytes = 0 })) q
+
+-- where nothing is refused, the bytes of the guard stand in front
+pub bytes-back : {p : Parsed Guard} {g : Guard} {rest : List ℕ} → p ≡ accepted g rest → (n : ℕ) → answerTo p n .refused ≡ 0 → take (answerTo p n .bytes) (leftBy p n) ≡ bytesOf g
+bytes-back {p} {g} {rest} is n z =
+    ap (λ (x : Parsed Guard). take (answerTo x n .bytes) (leftBy x n)) is
+    ∙ by-test (leb (length (bytesOf g)) n)
+    (λ q. ap₂ (λ (k : ℕ) (l : List ℕ). take k l) (ap (λ (w : FileWritten). w .bytes) (by-length g rest n true q)) (filled-with (bytesOf g) n q)
+    ∙ take-at (bytesOf g) (replicate (n - length (bytesOf g)) 0) (length (bytesOf g)) refl)
+    (λ q. absurd (omega (arith, sym (ap (λ (x : Parsed Guard). answerTo x n .refused) is ∙ ap (λ (w : FileWritten). w .refused) (by-length g rest n false q)) ∙ z)))
+
+-- no more bytes are told than every guard has
+pub few-told : (p : Parsed Guard) (n most : ℕ) → ((g : Guard) (rest : List ℕ) → p ≡ accepted g rest → length (bytesOf g) ≤ most) → answerTo p n .bytes ≤ most
+few-told (refused q) n most h = omega arith
+few-told (accepted g rest) n most h =
+    by-test (leb (length (bytesOf g)) n) (λ q. subst (λ (w : FileWritten). w .bytes ≤ most) (sym (by-length g rest n true q)) (h g rest refl))
+    (λ q. subst (λ (w : FileWritten). w .bytes ≤ most) (sym (by-length g rest n false q)) (omega arith))

@@ -30,6 +30,10 @@ tidy-file limits =
     (λ rs k. tidy-bind (literalsBy (limits .lines) (literal ts rs)) _ Any Any (tidy-literals (limits .lines) ts rs)
     (λ ls l. tidy-return (record { types = ts; rows = rs; literals = ls }) Any tt))))))
 
+-- no question has number 0
+pub file-question : (limits : Limits) (bytes : List ℕ) (q : ℕ) → file limits bytes ≡ refused q → ¬ (q ≡ 0)
+file-question limits bytes q e z = omega (arith, tidy-file limits .asks bytes q e, z)
+
 module _ (limits : Limits) (bytes : List ℕ) (t : Tables) (is : t ≡ tablesAt limits bytes) where
   tables-by : (r : Parsed Guard) → file limits bytes ≡ r → t ≡ asTables r
   unfolding tablesAt
@@ -59,5 +63,5 @@ module _ (limits : Limits) (bytes : List ℕ) (t : Tables) (is : t ≡ tablesAt 
   taken-file z = go (file limits bytes) refl
     where
       go : (r : Parsed Guard) → file limits bytes ≡ r → (g : Guard) × (rest : List ℕ) × (file limits bytes ≡ accepted g rest)
-      go (refused q) e = absurd (omega (arith, tidy-file limits .asks bytes q e, question-of q e, z))
+      go (refused q) e = absurd (file-question limits bytes q e (sym (question-of q e) ∙ z))
       go (accepted g rest) e = (g, rest, e)
