@@ -7,6 +7,7 @@ ghost use Rattle.refutations.specs.Checker.{checked};
 ghost use Rattle.recordchecker.specs.Checks.{answer};
 ghost use Rattle.serialize.specs.NumberList.{listFile};
 ghost use Rattle.filewriter.specs.Writer.{answerTo, leftBy};
+ghost use Rattle.merged.specs.Merge.{mergedFile};
 ghost use Rattle.desklink.specs.Links.{Links, LinksExplained, writtenCode};
 ghost use Rattle.returncodes.specs.Code.{minus};
 
@@ -69,5 +70,16 @@ pub extern "C" fn guarddesk_write(list: &[i64], out: &mut [u8]) -> i64
     ensures { λ r. ⌜ now (out .exit) ≡ leftBy (listFile base (now (list .entry))) (length (now (out .entry))) ⌝ }
 {
     let w = filewriter::write(list, out);
+    returncodes::code_of(w.refused, w.bytes)
+}
+
+// Two guard files as one: the file of a guard that holds where both do, into `out`, zeros behind it. Returns the number of its bytes, or
+// minus the number of the first question that gets a no; then `out` is all 0.
+#[no_mangle]
+pub extern "C" fn guarddesk_merge(first: &[u8], second: &[u8], out: &mut [u8]) -> i64
+    ensures { λ r. ⌜ r ≡ writtenCode (answerTo (mergedFile base (now (first .entry)) (now (second .entry))) (length (now (out .entry)))) ⌝ }
+    ensures { λ r. ⌜ now (out .exit) ≡ leftBy (mergedFile base (now (first .entry)) (now (second .entry))) (length (now (out .entry))) ⌝ }
+{
+    let w = merge::merge(first, second, out);
     returncodes::code_of(w.refused, w.bytes)
 }

@@ -31,9 +31,11 @@ literalsBytes ls = concatMap tokenBytes (concatMap literalTokens ls)
 -- the types, then the rows, then the literals
 pub in-parts : (g : Guard) → Parts (typePart (g .types)) (allRows g) (allLiterals g) (bytesOf g)
 unfolding bytesOf guardTokens typePart
-in-parts g = record { are = sym (
-    concatMap-append tokenBytes (plain (length (g .types)) ∷ concatMap typeTokens (g .types)) (rowPart ++ literalPart)
-    ∙ ap (λ (l : List ℕ). typePart (g .types) ++ l) (concatMap-append tokenBytes rowPart literalPart)) }
+in-parts g = record {
+  are = sym (
+      concatMap-append tokenBytes (plain (length (g .types)) ∷ concatMap typeTokens (g .types)) (rowPart ++ literalPart)
+      ∙ ap (λ (l : List ℕ). typePart (g .types) ++ l) (concatMap-append tokenBytes rowPart literalPart));
+}
   where
     rowPart : List Token
     rowPart = plain (length (g .rows)) ∷ concatMap rowTokens (g .rows)
