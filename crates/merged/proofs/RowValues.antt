@@ -14,20 +14,11 @@ use Rattle.guard.specs.Message.{Message, noMessage}
 use Rattle.guard.specs.Types.{Types}
 use Rattle.guard.specs.WellFormed.{RowFits}
 use Rattle.guard.proofs.Accepted.{RowsFit}
+use Rattle.soundness.proofs.TermValues.{kept, next}
 use Rattle.merged.specs.Merge.{named}
 use Rattle.merged.proofs.Renumbered.{Among, own-named, own-row, renamed-value}
 
 module _ (ts : Types) (ρ : ℕ → Message) where
-  -- the value of the row after those whose values are given
-  abbrev next : List Message → Row → List Message
-  next vals r = valueOf ts ρ (length vals) vals r ∷ []
-
-  -- later rows change no value
-  kept : (rs : List Row) (vals : List Message) (i : ℕ) → i < length vals → getD (valuesFrom ts ρ vals rs) i noMessage ≡ getD vals i noMessage
-  kept [] vals i h = refl
-  kept (r ∷ rs) vals i h =
-      kept rs (vals ++ next vals r) i (omega (arith, length-append vals (next vals r))) ∙ List·getD-append vals (next vals r) noMessage i h
-
   -- only the values of the rows before count
   depends : (rs : List Row) (i : ℕ) (r : Row) → RowFits ts rs i r → (xs ys : List Message) → ((p : ℕ) → p < i → getD xs p noMessage ≡ getD ys p noMessage) → valueOf ts ρ i xs r ≡ valueOf ts ρ i ys r
   depends rs i r f xs ys at =
@@ -40,12 +31,12 @@ module _ (ts : Types) (ρ : ℕ → Message) where
     value-from [] vals fit k h = absurd (omega arith)
     value-from (r ∷ rs) vals fit zero h =
         rw add-zero
-        (kept rs (vals ++ next vals r) (length vals) (omega (arith, length-append vals (next vals r)))
+        (kept ts ρ rs (vals ++ next ts ρ vals r) (length vals) (omega (arith, length-append vals (next ts ρ vals r)))
         ∙ getD-append-seam vals (valueOf ts ρ (length vals) vals r) [] noMessage
-        ∙ depends all (length vals) r (subst (λ (q : ℕ). RowFits ts all q r) (add-zero (length vals)) (fit 0 h)) vals (valuesFrom ts ρ vals (r ∷ rs)) (λ p l. sym (kept (r ∷ rs) vals p l)))
+        ∙ depends all (length vals) r (subst (λ (q : ℕ). RowFits ts all q r) (add-zero (length vals)) (fit 0 h)) vals (valuesFrom ts ρ vals (r ∷ rs)) (λ p l. sym (kept ts ρ (r ∷ rs) vals p l)))
     value-from (r ∷ rs) vals fit (suc k) h =
-        let shift : (j : ℕ) → length vals + suc j ≡ length (vals ++ next vals r) + j = λ j. omega (arith, length-append vals (next vals r)) in
-        rw (shift k) (value-from rs (vals ++ next vals r) (λ j l. subst (λ (q : ℕ). RowFits ts all q (rowAt rs j)) (shift j) (fit (suc j) (omega arith))) k (omega arith))
+        let shift : (j : ℕ) → length vals + suc j ≡ length (vals ++ next ts ρ vals r) + j = λ j. omega (arith, length-append vals (next ts ρ vals r)) in
+        rw (shift k) (value-from rs (vals ++ next ts ρ vals r) (λ j l. subst (λ (q : ℕ). RowFits ts all q (rowAt rs j)) (shift j) (fit (suc j) (omega arith))) k (omega arith))
 
     value-is : RowsFit ts all → (i : ℕ) → i < length all → getD (valuesFrom ts ρ [] all) i noMessage ≡ valueOf ts ρ i (valuesFrom ts ρ [] all) (rowAt all i)
     value-is fit i h = rw zero-add at (value-from all [] (λ k l. subst (λ (q : ℕ). RowFits ts all q (rowAt all k)) (sym (zero-add k)) (fit k l)) i h)

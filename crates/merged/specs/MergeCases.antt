@@ -6,10 +6,9 @@ use lib.ListN.{replicate}
 use Rattle.laws.specs.Lists.{concatMap}
 use Rattle.guard.specs.Cases.{X, fileC, fileF, fileG, fileH}
 use Rattle.guard.specs.File.{file}
-use Rattle.guard.specs.Guard.{Guard}
 use Rattle.guard.specs.Limits.{base}
-use Rattle.guard.specs.Number.{Parsed, Parsed.accepted, Parsed.refused}
 use Rattle.encoding.specs.Encoding.{encoded, encodedValue}
+use Rattle.serialize.specs.ListCases.{bytesFor, questionOf}
 use Rattle.serialize.specs.Tokens.{bytesOf, guardTokens}
 use Rattle.merged.specs.Merge.{asked, askedOfSame, hasRoom, merged, mergedFile, names, sameVariables, typePart, written}
 
@@ -19,14 +18,6 @@ pub record Case : Type 0 where
   pub second : List ℕ
   pub question : ℕ
   pub bytes : List ℕ
-
-abbrev pub questionOf : Parsed Guard → ℕ
-questionOf (refused q) = q
-questionOf (accepted g rest) = 0
-
-abbrev pub bytesFor : Parsed Guard → List ℕ
-bytesFor (refused q) = []
-bytesFor (accepted g rest) = bytesOf g
 
 abbrev merges : List ℕ → List ℕ → List ℕ → Case
 merges first second bs = record { first = first; second = second; question = 0; bytes = bs }

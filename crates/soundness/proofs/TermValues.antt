@@ -60,11 +60,11 @@ RowEquation ts ρ val i (field t a v p) = val i ≡ readField ts t v p (val a)
 
 module _ (ts : Types) (ρ : ℕ → Message) where
   -- the value of the row after those whose values are given
-  abbrev next : List Message → Row → List Message
+  abbrev pub next : List Message → Row → List Message
   next vals r = valueOf ts ρ (length vals) vals r ∷ []
 
   -- later rows change no value
-  kept : (rs : List Row) (vals : List Message) (i : ℕ) → i < length vals → getD (valuesFrom ts ρ vals rs) i noMessage ≡ getD vals i noMessage
+  pub kept : (rs : List Row) (vals : List Message) (i : ℕ) → i < length vals → getD (valuesFrom ts ρ vals rs) i noMessage ≡ getD vals i noMessage
   kept [] vals i h = refl
   kept (r ∷ rs) vals i h =
       kept rs (vals ++ next vals r) i (omega (arith, length-append vals (next vals r)))
