@@ -18,6 +18,7 @@ impl fmt::Display for Refusal {
             8 => "a type has no default",
             9 => "a variant with fields has none of infinite type",
             10 => "numbers follow the last line",
+            18 => "more than one number type",
             _ => "the file does not fit into its buffer",
         };
         write!(f, "question {}: {why}", self.0)
@@ -27,7 +28,8 @@ impl fmt::Display for Refusal {
 impl std::error::Error for Refusal {}
 
 /// Writes the guard file of a list of its numbers, in file order and constants as their values. The desk takes what is written, and
-/// reads these numbers from it; that is proved, and that the numbers of a file that it takes are written as that file.
+/// reads these numbers from it; that is proved, and that the numbers of a file that it takes are written as that file if at most one
+/// of its types is a number type.
 ///
 /// ```
 /// use guarddesk::{decide, write, Answer, Refusal};
@@ -62,6 +64,7 @@ mod tests {
         assert_eq!(why(&[-1]), "question 4: a count is outside its limits");
         let longer = "question 10: numbers follow the last line";
         assert_eq!(why(&[0, 0, 0, i64::MIN]), longer);
+        assert_eq!(why(&[2, 0, 0]), "question 18: more than one number type");
     }
 
     #[test]

@@ -1,5 +1,6 @@
 //! Lists of request #102 with the writer's answers: those of the accepted
-//! vectors, damaged ones, and other output buffers.
+//! vectors, damaged ones, and other output buffers. Request #112: those with
+//! several number types are refused.
 
 mod damage;
 
@@ -8,7 +9,8 @@ use crate::encode::{self, Draft, Token};
 use crate::guard::Limits;
 use crate::list::{self, LONGEST_FILE};
 use crate::random::{edge_value, far_value, Random};
-use crate::read::read;
+use crate::read::{read, Question};
+use crate::types::one_number_type;
 
 /// Of the accepted vectors each so many'th has its list kept, and each case of
 /// document 01.
@@ -24,6 +26,9 @@ const HEADER: &str = "\
 # buffer in bytes, LIST has spaces between its numbers and is - if empty. ANSWER is the guard
 # file in hexadecimal, or REFUSED and the refusal's number.
 ";
+
+/// Request #112: the writer's refusal of several number types.
+const SEVERAL_NUMBERS: u8 = Question::OneNumberType as u8;
 
 /// The file of a list, or the number of its refusal.
 pub type Answer = Result<Vec<u8>, u8>;
@@ -48,6 +53,8 @@ struct Source {
     name: String,
     file: Vec<u8>,
     tokens: Vec<Token>,
+    /// Request #112: at most one of its types is a number type.
+    one_number: bool,
 }
 
 impl Source {
@@ -57,7 +64,17 @@ impl Source {
             name: vector.name.clone(),
             file: vector.file.clone(),
             tokens: Draft::of(&guard).tokens(Limits::BASE),
+            one_number: one_number_type(&guard.types),
         })
+    }
+
+    /// The answer to its list, which has this one if its types may be written.
+    fn settled(&self, answer: Answer) -> Answer {
+        if self.one_number {
+            answer
+        } else {
+            Err(SEVERAL_NUMBERS)
+        }
     }
 
     fn list(&self) -> Vec<i64> {
@@ -82,7 +99,8 @@ type Make = fn(&mut Random, &[Token]) -> Option<Vec<i64>>;
 /// What is known of the answers to a family of lists.
 #[derive(Clone, Copy, PartialEq, Eq)]
 enum Answers {
-    /// The way the lists are made settles this refusal.
+    /// The way the lists are made settles this refusal, unless they are made of
+    /// several number types: then 18 may come before it.
     Settled(u8),
     /// Only those with this refusal are taken.
     Taken(u8),
@@ -94,10 +112,22 @@ enum Answers {
 
 use Answers::{Any, Formerly, Settled, Taken};
 
+impl Answers {
+    /// What the way of a list settles, made of this source.
+    fn settled(self, source: &Source) -> Option<Answer> {
+        match self {
+            Settled(question) if source.one_number || question == SEVERAL_NUMBERS => {
+                Some(Err(question))
+            }
+            _ => None,
+        }
+    }
+}
+
 /// A family of lists: its name, how many, and their answers.
 type Family = (&'static str, usize, Answers, Make);
 
-const FAMILIES: [Family; 12] = [
+const FAMILIES: [Family; 13] = [
     ("cut", 60, Settled(2), damage::cut),
     ("far-value", 60, Formerly, damage::far_value),
     ("wrong-count", 60, Settled(4), damage::wrong_count),
@@ -110,6 +140,12 @@ const FAMILIES: [Family; 12] = [
     ("other-name", 20, Any, damage::other_name),
     ("chance", 100, Any, damage::chance),
     ("noise", 30, Any, damage::noise),
+    (
+        "several-numbers",
+        60,
+        Settled(SEVERAL_NUMBERS),
+        damage::several_numbers,
+    ),
 ];
 
 /// A list that isn't quite that of these numbers, if they allow it.
@@ -130,12 +166,10 @@ pub fn all(vectors: &[Vector]) -> Result<Vec<Written>, String> {
         set.fill(name, many, |random| {
             let source = one_of(random, &sources)?;
             let list = make(random, &source.tokens)?;
-            let settled = match answers {
-                Settled(question) => Some(Err(question)),
-                Taken(question) if answer(&list, ROOM) != Err(question) => return None,
-                Taken(_) | Formerly | Any => None,
-            };
-            Some((list, ROOM, settled))
+            match answers {
+                Taken(question) if answer(&list, ROOM) != Err(question) => None,
+                _ => Some((list, ROOM, answers.settled(source))),
+            }
         })?;
     }
     set.outputs(&sources)?;
@@ -198,7 +232,8 @@ impl Set {
                 1 => ROOM,
                 _ => ROOM + i,
             };
-            let new = (source.list(), room, Some(Ok(source.file.clone())));
+            let expected = source.settled(Ok(source.file.clone()));
+            let new = (source.list(), room, Some(expected));
             self.add(format!("of-{}", source.name), new)?;
         }
         Ok(())
@@ -210,7 +245,9 @@ impl Set {
             let source = one_of(random, sources)?;
             let tokens = damage::other_value(random, &source.tokens, edge_value)?;
             let file = encode::bytes(&tokens);
-            Some((list::of_tokens(&tokens), file.len(), Some(Ok(file))))
+            let room = file.len();
+            let settled = source.settled(Ok(file));
+            Some((list::of_tokens(&tokens), room, Some(settled)))
         })
     }
 
@@ -224,7 +261,8 @@ impl Set {
                 1 => LONGEST_FILE,
                 _ => LONGEST_FILE + i,
             };
-            let new = (source.list(), room, Some(Ok(source.file.clone())));
+            let expected = source.settled(Ok(source.file.clone()));
+            let new = (source.list(), room, Some(expected));
             self.add(format!("of-{}", source.name), new)?;
         }
         for (name, many, short) in [("far-constant", 60, 0), ("far-short-output", 20, 1)] {
@@ -233,7 +271,7 @@ impl Set {
                 let tokens = damage::other_value(random, &source.tokens, far_value)?;
                 let file = encode::bytes(&tokens);
                 let room = file.len() - short;
-                let settled = if short == 0 { Ok(file) } else { Err(14) };
+                let settled = source.settled(if short == 0 { Ok(file) } else { Err(14) });
                 Some((list::of_tokens(&tokens), room, Some(settled)))
             })?;
         }
@@ -247,18 +285,16 @@ impl Set {
             let source = one_of(random, sources)?;
             let length = source.file.len();
             let room = [0, random.below(length), length - 1, length - 1][random.below(4)];
-            Some((source.list(), room, Some(Err(14))))
+            Some((source.list(), room, Some(source.settled(Err(14)))))
         })?;
         self.fill("refused-short-output", 36, |random| {
             let source = one_of(random, sources)?;
             let (_, _, answers, make) = FAMILIES[random.below(FAMILIES.len())];
-            let settled = match answers {
-                Settled(question) => Some(Err(question)),
-                Formerly => None,
-                Taken(_) | Any => return None,
-            };
+            if matches!(answers, Taken(_) | Any) {
+                return None;
+            }
             let list = make(random, &source.tokens)?;
-            Some((list, random.below(3), settled))
+            Some((list, random.below(3), answers.settled(source)))
         })
     }
 }
