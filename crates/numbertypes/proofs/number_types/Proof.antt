@@ -32,11 +32,10 @@ loop-less c = omega arith
 loop-again : tie.Need-loop-again Inv-loop μ-loop
 loop-again c =
     let l = c .before .before .before in
-    let vs = l .before .args .variants .now in
-    (
+    let vs = l .before .args .variants .now in (
       omega arith,
       ⊎-elim (λ w. omega (arith, w .1, l .loop .inv .1, one-more vs (l .loop .t) (w .0 .taken)))
-      (λ w. omega (arith, w .1, l .loop .inv .1, none-more vs (l .loop .t) (w .0 .left))) (c .if1 .came),
+          (λ w. omega (arith, w .1, l .loop .inv .1, none-more vs (l .loop .t) (w .0 .left))) (c .if1 .came),
     )
 
 returns : tie.Need-returns Inv-loop μ-loop
