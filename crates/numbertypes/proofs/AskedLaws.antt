@@ -14,7 +14,7 @@ use Rattle.guard.specs.File.{bytes, count, types}
 use Rattle.guard.specs.Limits.{base}
 use Rattle.guard.specs.Number.{Parsed, Parsed.accepted, Parsed.refused, Parser, _>>_, andThen, ask}
 use Rattle.guard.specs.Types.{Types, allDefaults, defaults, infiniteFields}
-use Rattle.tables.specs.Layout.{TypesInRange, defaultColumn, pad, typeTable, typesOf}
+use Rattle.tables.specs.Layout.{TypesInRange, defaultColumn, typeTable, typesOf}
 use Rattle.tables.specs.declared.TypeTable.{TypeTable}
 use Rattle.serialize.specs.NumberList.{numberTypes, typesAsked}
 use Rattle.typereader.specs.TypeReader.{typesAt, typesPart}

@@ -1,5 +1,4 @@
 -- `types_question`: what the types part, its facts and its count of number types say. Assumes nothing.
-use mathlib.Core.Path.{_≡_}
 use mathlib.Core.List.{List}
 use Prim.Native.Nat.{ℕ}
 use native.Mathlib.Omega.{arith}
