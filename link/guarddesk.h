@@ -140,7 +140,7 @@ uint32_t guarddesk_check(const uint8_t *file, size_t file_length, const uint8_t 
 /*
  * Writes the guard file of a list of its numbers: counts, kinds and names as they are, in file order, and the constants as their
  * values, whatever these are. The other calls take what it writes, and read these numbers from it; the numbers of a file that
- * they take are written as that file, byte for byte.
+ * they take are written as that file, byte for byte, if at most one of its types is a number type.
  *
  * It returns how many bytes the file has. They stand in front of out, and bytes behind them are 0. GUARDDESK_FILE_LENGTH bytes
  * always suffice. Otherwise it returns a number below 0, minus the first question that got a no, and all of out is 0:
@@ -149,6 +149,7 @@ uint32_t guarddesk_check(const uint8_t *file, size_t file_length, const uint8_t 
  *    -5  something named is not there            -9  a variant with fields has none of infinite type
  *    -6  a kind is none of those listed         -10  numbers follow the last line
  *   -14  the file has more than out_length bytes; this is asked last
+ *   -18  more than one number type; this is asked after -9
  * A negative number where a count, a name or a kind stands gets -4, -5 or -6, as one that is too large does.
  *
  * The caller owes what guarddesk_decide asks, for these two areas.

@@ -7,6 +7,7 @@ use crate::encode::{Draft, Role, Token};
 use crate::guard::Limits;
 use crate::number;
 use crate::read::{self, Numbers, Question};
+use crate::types::{self, Type};
 
 /// Request #104: "the longest file is 585 bytes".
 pub const LONGEST_FILE: usize = 585;
@@ -50,12 +51,18 @@ impl Numbers for List<'_> {
     fn ended(&self) -> bool {
         self.rest.is_empty()
     }
+
+    /// Request #112: "18, asked by the writer after 9, when more than one type
+    /// is a number type".
+    fn after_types(&self, types: &[Type]) -> Result<(), Question> {
+        Question::OneNumberType.ask(types::one_number_type(types))
+    }
 }
 
 /// The bytes of the file with these numbers.
 ///
-/// "It asks the base's questions 4 to 10 of the list." A negative number is no
-/// count, names nothing and is no kind.
+/// "It asks the base's questions 4 to 10 of the list.", and request #112's 18
+/// after 9. A negative number is no count, names nothing and is no kind.
 pub fn write(list: &[i64], limits: Limits) -> Result<Vec<u8>, Question> {
     let guard = read::read_numbers(List { rest: list }, limits)?;
     Ok(Draft::of(&guard).bytes())
@@ -220,6 +227,8 @@ mod tests {
             ("2 1 0 1 1 0", 9),
             ("0 0 0 0", 10),
             ("0 0 0 -9223372036854775808", 10),
+            ("2 0 0  0  0", 18),
+            ("6 0 0 0 0 0 0  0  0", 18),
         ] {
             assert_eq!(written(text), Err(question), "{text}");
         }
@@ -238,9 +247,30 @@ mod tests {
             ("1 1 1 0  25", 8),
             // Both 8 and 9.
             ("3 1 0 1 1 1 1 1 0", 8),
+            // Two number types: 18 comes after all that is asked of types, and
+            // before what stands behind them.
+            ("2 0 0", 18),
+            ("2 0 0  25", 18),
+            ("2 0 0  1 1 0 5  0 0", 18),
+            ("3 0 1 0 0  -1", 18),
+            ("3 0 0", 2),
+            ("3 0 0 17", 4),
+            ("3 0 0 1 1 3", 5),
+            ("3 0 0 1 1 2", 8),
+            ("4 0 0 1 0 1 1 2", 9),
         ] {
             assert_eq!(written(text), Err(question), "{text}");
         }
+    }
+
+    /// "Existing files with several are still taken everywhere else."
+    #[test]
+    fn files_with_two_number_types_are_read() {
+        let file = [2, 0, 0, 0, 0];
+        let list = numbers(&file, Limits::BASE).expect("an accepted file");
+        assert_eq!(list, [2, 0, 0, 0, 0]);
+        assert_eq!(write(&list, Limits::BASE), Err(Question::OneNumberType));
+        assert_eq!(written("3 1 0 0 1 1 1  0  0").map(|file| file.len()), Ok(9));
     }
 
     #[test]
@@ -255,6 +285,7 @@ mod tests {
         assert_eq!(within("0 0 0", 0), Err(14));
         assert_eq!(within("0 0 0 0", 0), Err(10));
         assert_eq!(within("-", 0), Err(2));
+        assert_eq!(within("2 0 0  0  0", 0), Err(18));
     }
 
     #[test]

@@ -5,7 +5,8 @@ use crate::guard::{Guard, Limits, Line, Row, FIELDS, VARIANTS_IN_ALL, VARIANTS_P
 use crate::number::{self, Width};
 use crate::types::{self, Type};
 
-/// The questions of document 01; a "no" refuses with the question's number.
+/// The questions of document 01, and the one that request #112 adds for the
+/// writer; a "no" refuses with the question's number.
 #[derive(Clone, Copy, Debug, PartialEq, Eq)]
 pub enum Question {
     BuffersLongEnough = 1,
@@ -18,10 +19,11 @@ pub enum Question {
     DefaultsExist = 8,
     FieldsCanGrow = 9,
     FileEnded = 10,
+    OneNumberType = 18,
 }
 
 impl Question {
-    /// All questions, in their order.
+    /// All questions of document 01, in their order.
     pub const ALL: [Question; 10] = [
         Question::BuffersLongEnough,
         Question::NumberEnds,
@@ -40,7 +42,7 @@ impl Question {
     }
 
     /// Goes on if the answer is yes.
-    fn ask(self, yes: bool) -> Result<(), Question> {
+    pub fn ask(self, yes: bool) -> Result<(), Question> {
         if yes {
             Ok(())
         } else {
@@ -71,6 +73,11 @@ pub trait Numbers {
 
     /// Is no number left?
     fn ended(&self) -> bool;
+
+    /// What is asked of the types after 9; of a file nothing.
+    fn after_types(&self, _types: &[Type]) -> Result<(), Question> {
+        Ok(())
+    }
 }
 
 /// Questions 2 to 10: the guard that `file` holds.
@@ -87,6 +94,7 @@ pub fn read_numbers(numbers: impl Numbers, limits: Limits) -> Result<Guard, Ques
     let defaults: Option<Vec<_>> = types::defaults(&types).into_iter().collect();
     let defaults = defaults.ok_or(Question::DefaultsExist)?;
     Question::FieldsCanGrow.ask(types::fields_can_grow(&types))?;
+    reader.numbers.after_types(&types)?;
 
     let mut guard = Guard {
         limits,

@@ -74,6 +74,11 @@ pub fn fields_can_grow(types: &[Type]) -> bool {
     variants.all(|fields| fields.is_empty() || fields.iter().any(|&field| !finite[field]))
 }
 
+/// Request #112: is at most one type a number type?
+pub fn one_number_type(types: &[Type]) -> bool {
+    types.iter().filter(|ty| ty.is_number()).count() <= 1
+}
+
 #[cfg(test)]
 mod tests {
     use super::*;

@@ -3,7 +3,7 @@
 use crate::check::Source;
 use crate::guard::{FIELDS, LINES, TERMS, TYPES, VARIANTS_IN_ALL, VARIANTS_PER_TYPE};
 use crate::lex::{Fault, Place};
-use crate::types::{finite_fields, without_default};
+use crate::types::{finite_fields, second_number, without_default};
 
 /// Where in the text a refusal belongs; an error if the guard gives no reason for a no to this
 /// question. Names, kinds and types of a text fit, so no other question can get one.
@@ -12,6 +12,7 @@ pub fn explain(source: &Source, question: u32) -> Result<Fault, String> {
         4 => count(source),
         8 => no_default(source),
         9 => no_infinite_field(source),
+        18 => several_numbers(source),
         _ => None,
     };
     fault.ok_or_else(|| {
@@ -41,6 +42,15 @@ fn no_infinite_field(source: &Source) -> Option<Fault> {
         source.names.types[t].name
     );
     Some(Fault::new(source.places.variants[t][v], why))
+}
+
+fn several_numbers(source: &Source) -> Option<Fault> {
+    let t = second_number(&source.guard.types)?;
+    let why = format!(
+        "more than one number type: `{}` is the second",
+        source.names.types[t].name
+    );
+    Some(Fault::new(source.places.types[t], why))
 }
 
 /// The first count beyond its limit, in file order.

@@ -1,4 +1,4 @@
-//! Which types have a default, and which are finite: questions 8 and 9.
+//! Which types have a default, which are finite, and which are number types: questions 8, 9 and 18.
 
 use crate::guard::Type;
 
@@ -26,6 +26,12 @@ pub fn finite_fields(types: &[Type]) -> Option<(usize, usize)> {
     None
 }
 
+/// Question 18: the second number type.
+pub fn second_number(types: &[Type]) -> Option<usize> {
+    let mut numbers = (0..types.len()).filter(|&t| types[t].is_number());
+    numbers.nth(1)
+}
+
 /// The least set of types that is closed under the rule; a round for each type suffices.
 fn least(types: &[Type], rule: impl Fn(&Type, &[bool]) -> bool) -> Vec<bool> {
     let mut set = vec![false; types.len()];
@@ -51,6 +57,13 @@ mod tests {
         assert_eq!(without_default(&types(&[&[&[1]], &[&[2]], &[&[]]])), None);
         assert_eq!(without_default(&types(&[&[], &[&[1]]])), Some(1));
         assert_eq!(without_default(&types(&[&[&[1]], &[&[0], &[1]]])), Some(0));
+    }
+
+    #[test]
+    fn one_type_is_a_number_type() {
+        assert_eq!(second_number(&types(&[&[], &[&[]], &[], &[]])), Some(2));
+        assert_eq!(second_number(&types(&[&[&[]], &[], &[&[]]])), None);
+        assert_eq!(second_number(&types(&[&[&[]]])), None);
     }
 
     #[test]

@@ -150,6 +150,10 @@ fn refusals_have_a_place() {
         "REFUSED 9, line 2, column 14: variant `d` of `B` has fields of finite types only: \
          at least one field has to be of an infinite type, such as a number type\n"
     );
+    assert_eq!(
+        refused("type N = number\ntype A = a\ntype M = number\nvar x: M", 18),
+        "REFUSED 18, line 3, column 6: more than one number type: `M` is the second\n"
+    );
     let seven: String = (0..7).map(|t| format!("type T{t} = number\n")).collect();
     assert_eq!(
         refused(&seven, 4),
@@ -191,5 +195,6 @@ fn refusals_have_a_place() {
 #[test]
 fn refusals_without_a_reason_are_errors() {
     assert!(answered("type A = a", Answer::Refused(8)).is_err());
+    assert!(answered("type A = number", Answer::Refused(18)).is_err());
     assert!(answered("type A = a(x: A)", Answer::Refused(4)).is_err());
 }

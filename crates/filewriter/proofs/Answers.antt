@@ -42,7 +42,7 @@ module _ {p : Parsed Guard} {g : Guard} {rest : List ℕ} (is : p ≡ accepted g
 
 -- ---- what an answer tells
 
-by-length : (g : Guard) (rest : List ℕ) (n : ℕ) (b : Bool) → leb (length (bytesOf g)) n ≡ b → answerTo (accepted g rest) n ≡ cond b (record { refused = 0; bytes = length (bytesOf g) }) (record { refused = 14; bytes = 0 })
+pub by-length : (g : Guard) (rest : List ℕ) (n : ℕ) (b : Bool) → leb (length (bytesOf g)) n ≡ b → answerTo (accepted g rest) n ≡ cond b (record { refused = 0; bytes = length (bytesOf g) }) (record { refused = 14; bytes = 0 })
 by-length g rest n b q = ap (λ (x : Bool). cond x (record { refused = 0; bytes = length (bytesOf g) }) (record { refused = 14; bytes = 0 })) q
 
 -- where nothing is refused, the bytes of the guard stand in front

@@ -13,16 +13,16 @@ use Rattle.guard.specs.File.{bytes, file}
 use Rattle.guard.specs.Grammar.{Source, count, ended, fileOf, kind, literal, literalOf, name, parts, rowOf, rows, termAndVariant, twoTerms, types, variant, variantTerm}
 use Rattle.guard.specs.Guard.{Guard, Literal, Literal.equal, Literal.is, Literal.isnt, Literal.unequal, Row, Row.built, Row.constant, Row.field, Row.variable, noRow, rowAt, typeAt, typeOf}
 use Rattle.guard.specs.Limits.{Limits, Supported, fieldLimit, totalVariantLimit, variantLimit}
-use Rattle.guard.specs.Number.{Parsed, Parsed.accepted, Parsed.refused, Parser, _>>=_, _>>_, return, times, unfoldSigned}
+use Rattle.guard.specs.Number.{Parsed, Parsed.accepted, Parsed.refused, Parser, _>>=_, _>>_, ask, return, times, unfoldSigned}
 use Rattle.guard.specs.Types.{Types, Variant, allDefaults, fieldsOf, infiniteFields, isNumber, variantsOf}
-use Rattle.serialize.specs.NumberList.{numberList}
+use Rattle.serialize.specs.NumberList.{numberList, numberTypes, typesAsked}
 use Rattle.numbers.proofs.Tidy.{Any}
 use Rattle.typereader.proofs.TidyTypes.{TypesFit, tidy-types}
 use Rattle.variantreader.proofs.TidyVariants.{VariantFits}
 use Rattle.listreader.specs.ListReader.{valueless, valuelessRow, valuelessRows}
 use Rattle.listreader.specs.Plain.{largest, mostNumbers, plainOf}
 use Rattle.listreader.specs.Written.{Narrow}
-use Rattle.listreader.proofs.Simulation.{Agree, Same, Sim, sim-asked, sim-bind, sim-bind-same, sim-ended, sim-folded, sim-gives, sim-number, sim-return, sim-room, sim-times}
+use Rattle.listreader.proofs.Simulation.{Agree, Same, Sim, sim-asked, sim-bind, sim-bind-same, sim-ended, sim-folded, sim-gives, sim-number, sim-question, sim-return, sim-room, sim-times}
 
 -- ---- counts, names and kinds
 
@@ -249,17 +249,36 @@ module _ (limits : Limits) (sup : Supported limits) where
       (sim-lines ts sizes)
       (sim-room (6 * n) (6 * limits .terms) (rows numberList n ts []) (rows bytes n ts []) Rows (omega arith) (sim-rows ts sizes n [] [] refl (omega (arith, sup .terms)))))
 
+  -- T and the types, with the questions 8 and 9, and what follows
+  module _ {A : Type 0} where
+    abbrev begun : Source → (Types → Parser A) → Parser A
+    begun src f = count src (limits .types) >>= λ many. types src many many 0 >>= λ ts. ask 8 (allDefaults ts) >> (ask 9 (infiniteFields ts) >> f ts)
+
+    sim-begun : (k : ℕ) (f f′ : Types → Parser A) (R : A → A → Type 0) → ((ts : Types) → Sizes ts → Sim k (f ts) (f′ ts) R)
+        → Sim (1 + (limits .types + 4 * totalVariantLimit + k)) (begun numberList f) (begun bytes f′) R
+    sim-begun k f f′ R h =
+        sim-bind-same 1 (limits .types + 4 * totalVariantLimit + k) (count numberList (limits .types)) (count bytes (limits .types)) _ _ (λ n. n ≤ limits .types) R
+        (sim-count (limits .types) (omega (arith, sup .types)))
+        (λ many few. sim-bind-same (limits .types + 4 * totalVariantLimit) k (types numberList many many 0) (types bytes many many 0) _ _ (TypesFit many many 0) R
+        (sim-gives (limits .types + 4 * totalVariantLimit) (types numberList many many 0) (types bytes many many 0) Any (TypesFit many many 0) (tidy-types many many 0 (omega arith))
+        (sim-room (many + 4 * (totalVariantLimit - 0)) (limits .types + 4 * totalVariantLimit) (types numberList many many 0) (types bytes many many 0) (Same Any) (omega arith)
+        (sim-types many many 0 (omega (arith, sup .types)) (omega arith))))
+        (λ ts fit. sim-asked k 8 (allDefaults ts) (allDefaults ts) _ _ R (omega arith) refl (λ e8. sim-asked k 9 (infiniteFields ts) (infiniteFields ts) (f ts) (f′ ts) R (omega arith) refl (λ e9.
+        h ts (sizes-of many ts (omega (arith, sup .types)) fit)))))
+
   sim-file : Sim (mostNumbers limits) (fileOf numberList limits) (fileOf bytes limits) AlikeGuards
   sim-file =
       sim-room (1 + (limits .types + 4 * totalVariantLimit + (1 + (6 * limits .terms + (1 + (3 * limits .lines + 1)))))) (mostNumbers limits) (fileOf numberList limits) (fileOf bytes limits) AlikeGuards (omega arith)
-      (sim-bind-same 1 (limits .types + 4 * totalVariantLimit + (1 + (6 * limits .terms + (1 + (3 * limits .lines + 1))))) (count numberList (limits .types)) (count bytes (limits .types)) _ _ (λ n. n ≤ limits .types) AlikeGuards
-      (sim-count (limits .types) (omega (arith, sup .types)))
-      (λ many h. sim-bind-same (limits .types + 4 * totalVariantLimit) (1 + (6 * limits .terms + (1 + (3 * limits .lines + 1)))) (types numberList many many 0) (types bytes many many 0) _ _ (TypesFit many many 0) AlikeGuards
-      (sim-gives (limits .types + 4 * totalVariantLimit) (types numberList many many 0) (types bytes many many 0) Any (TypesFit many many 0) (tidy-types many many 0 (omega arith))
-      (sim-room (many + 4 * (totalVariantLimit - 0)) (limits .types + 4 * totalVariantLimit) (types numberList many many 0) (types bytes many many 0) (Same Any) (omega arith)
-      (sim-types many many 0 (omega (arith, sup .types)) (omega arith))))
-      (λ ts fit. sim-asked _ 8 (allDefaults ts) (allDefaults ts) _ _ AlikeGuards (omega arith) refl (λ e8. sim-asked _ 9 (infiniteFields ts) (infiniteFields ts) (terms numberList ts) (terms bytes ts) AlikeGuards (omega arith) refl (λ e9.
-      sim-terms ts (sizes-of many ts (omega (arith, sup .types)) fit))))))
+      (sim-begun (1 + (6 * limits .terms + (1 + (3 * limits .lines + 1)))) (terms numberList) (terms bytes) AlikeGuards sim-terms)
+
+  sim-typesAsked : Sim (mostNumbers limits) (typesAsked numberList limits) (typesAsked bytes limits) (Same Any)
+  sim-typesAsked =
+      sim-room (1 + (limits .types + 4 * totalVariantLimit + 0)) (mostNumbers limits) (typesAsked numberList limits) (typesAsked bytes limits) (Same Any) (omega arith)
+      (sim-begun 0 (λ ts. ask 18 (leb (numberTypes ts) 1)) (λ ts. ask 18 (leb (numberTypes ts) 1)) (Same Any) (λ ts sizes. sim-question 18 (leb (numberTypes ts) 1) (omega arith)))
+
+  pub simulated-types : (ws : List ℕ) (n : ℕ) → All Narrow (take n ws) → mostNumbers limits ≤ n → Agree 0 (Same Any) (typesAsked numberList limits ws) (typesAsked bytes limits (plainOf n ws))
+  unfolding Sim
+  simulated-types ws n narrow room = sim-typesAsked ws n 0 narrow (omega arith)
 
   pub simulated : (ws : List ℕ) (n : ℕ) → All Narrow (take n ws) → mostNumbers limits ≤ n → Answers (fileOf numberList limits ws) (file limits (plainOf n ws))
   unfolding Sim file

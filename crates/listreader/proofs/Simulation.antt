@@ -89,6 +89,12 @@ module _ {A B : Type 0} where
       by true hp = hp refl
       by false hp = λ ws n m narrow h. both-refuse q later
 
+-- and nothing behind it
+pub sim-question : (q : ℕ) (x : Bool) → 3 < q → Sim 0 (ask q x) (ask q x) (Same Any)
+unfolding Sim
+sim-question q true later = λ ws n m narrow h. (n, refl, omega arith, narrow, (refl, tt))
+sim-question q false later = λ ws n m narrow h. both-refuse q later
+
 -- what the second parser's values satisfy, where both have equal ones
 pub sim-gives : {A : Type 0} (k : ℕ) (p p′ : Parser A) (P Q : A → Type 0) → Tidy p′ Q → Sim k p p′ (Same P) → Sim k p p′ (Same Q)
 unfolding Sim

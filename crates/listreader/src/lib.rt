@@ -36,13 +36,17 @@ fn plain_bytes(list: &[i64], out: &mut [u8; 448]) -> usize
     many
 }
 
-// The tables of a guard file given as a list of its numbers, but for the values of its constants; or the first question of
-// document 01 that gets a no, and empty tables. Document 02, #104: "The writer's 3 no longer occurs."
+// The tables of a guard file given as a list of its numbers, but for the values of its constants; or the first question that gets a
+// no, 18 of the types among them, and empty tables. Document 02, #104: "The writer's 3 no longer occurs."
 pub fn read_list(list: &[i64]) -> Tables
     ensures { λ r. ⌜ ReadsList (listFile base (now (list .entry))) r ⌝ }
     ensures { λ r. ⌜ ¬ (r .refused ≡ 3) ⌝ }
 {
     let mut out = [0u8; 448];
     let many = plain_bytes(list, &mut out);
+    let question = numbertypes::types_question(&out[..many]);
+    if question != 0 {
+        return reader::no_tables(question);
+    }
     reader::read(&out[..many], 6, 24, 32)
 }

@@ -28,7 +28,8 @@ fn at_most(n: u32, limit: u32) -> u32
     limit
 }
 
-fn no_tables(question: u32) -> Tables
+// The tables of a file that this question refused.
+pub fn no_tables(question: u32) -> Tables
     ensures { λ r. ⌜ r ≡ noTables question ⌝ }
 {
     let none6 = [0u8; 6];

@@ -1,5 +1,5 @@
 -- No list is refused with 0: a refusal is by a question, wherever the numbers of a file come from. Assumes nothing.
-use mathlib.Core.Path.{_≡_, ap, sym, _∙_}
+use mathlib.Core.Path.{_≡_, refl, ap, sym, _∙_}
 use mathlib.Core.Bool.{Bool, true, false, not, _&&_}
 use mathlib.Core.List.{List, [], _∷_, _++_, map}
 use Prim.Native.Nat.{ℕ, zero, suc, _+_, _<_}
@@ -12,7 +12,7 @@ use Rattle.guard.specs.Guard.{Guard, Literal, Literal.equal, Literal.is, Litera
 use Rattle.guard.specs.Limits.{Limits, fieldLimit, totalVariantLimit, variantLimit}
 use Rattle.guard.specs.Number.{Parsed, Parsed.accepted, Parsed.refused, Parser, _>>=_, _>>_, andThen, ask, foldSigned, return, times, unfoldSigned, valueWidth}
 use Rattle.guard.specs.Types.{Types, Variant, allDefaults, fieldsOf, infiniteFields, isNumber, variantsOf}
-use Rattle.serialize.specs.NumberList.{listFile, next, numberList, unsignedBy}
+use Rattle.serialize.specs.NumberList.{listFile, next, numberList, numberTypes, typesAsked, unlessRefused, unsignedBy}
 
 abbrev Asks : {A : Type 0} → Parser A → Type 0
 Asks p = (bs : List ℕ) (q : ℕ) → p bs ≡ refused q → 0 < q
@@ -33,6 +33,10 @@ asks-return a bs q e = taken e
 asks-asked : {A : Type 0} (i : ℕ) (b : Bool) (p : Parser A) → 0 < i → Asks p → Asks (ask i b >> p)
 asks-asked i true p l h bs q e = h bs q e
 asks-asked i false p l h bs q e = let z : i ≡ q = cc in omega arith
+
+asks-last : (b : Bool) → Asks (ask 18 b)
+asks-last true bs q e = taken e
+asks-last false bs q e = let z : 18 ≡ q = cc in omega arith
 
 asks-times : {A : Type 0} (k : ℕ) (p : Parser A) → Asks p → Asks (times k p)
 asks-times zero p h = asks-return []
@@ -64,6 +68,12 @@ module _ (src : Source) (numbers : Asks (src .number)) (values : Asks (src .fold
       asks-number 4 (λ v. leb v variantLimit && leb (total + v) totalVariantLimit) _ (omega arith)
       (λ v. asks-bind (times v (variant src many)) _ (asks-times v (variant src many) (asks-variant many))
       (λ vs. asks-bind (types src left many (total + v)) _ (asks-types left many (total + v)) (λ ts. asks-return (vs ∷ ts))))
+
+  asks-types-part : (limits : Limits) → Asks (typesAsked src limits)
+  asks-types-part limits =
+      asks-bind (count src (limits .types)) _ (asks-count (limits .types))
+      (λ many. asks-bind (types src many many 0) _ (asks-types many many 0)
+      (λ ts. asks-asked 8 (allDefaults ts) _ (omega arith) (asks-asked 9 (infiniteFields ts) _ (omega arith) (asks-last (leb (numberTypes ts) 1)))))
 
   module _ (ts : Types) (rs : List Row) where
     asks-parts : (fs : Variant) → Asks (parts src ts rs fs)
@@ -131,8 +141,19 @@ asks-next : Asks next
 asks-next [] q e = let z : 2 ≡ q = cc in omega arith
 asks-next (w ∷ ws) q e = taken e
 
+asks-numbers : Asks (numberList .number)
+asks-numbers = asks-bind next _ asks-next (λ w. asks-return (unsignedBy (unfoldSigned w)))
+
+asks-values : Asks (numberList .folded)
+asks-values = asks-bind next _ asks-next (λ w. asks-asked 3 (leb w (valueWidth .most)) _ (omega arith) (asks-return w))
+
 pub list-question : (limits : Limits) (zs : List ℤ) (q : ℕ) → listFile limits zs ≡ refused q → 0 < q
 unfolding listFile
-list-question limits zs q e =
-    asks-file numberList (asks-bind next _ asks-next (λ w. asks-return (unsignedBy (unfoldSigned w))))
-    (asks-bind next _ asks-next (λ w. asks-asked 3 (leb w (valueWidth .most)) _ (omega arith) (asks-return w))) limits (map foldSigned zs) q e
+list-question limits zs q = go (typesAsked numberList limits numbers) refl
+  where
+    numbers : List ℕ
+    numbers = map foldSigned zs
+
+    go : (r : Parsed (Unit {0})) → typesAsked numberList limits numbers ≡ r → unlessRefused r (fileOf numberList limits numbers) ≡ refused q → 0 < q
+    go (refused q′) i e = let z : q′ ≡ q = cc in asks-types-part numberList asks-numbers asks-values limits numbers q (i ∙ ap refused z)
+    go (accepted u rest) i e = asks-file numberList asks-numbers asks-values limits numbers q e

@@ -1,5 +1,5 @@
--- Request #102: a list that is taken is read back from its bytes, and a file that is taken has the bytes of its list. And every
--- well-formed guard has a file, for whatever writes guards. Assumes nothing.
+-- Request #102: a list that is taken is read back from its bytes, and a file that is taken, with at most one number type, has the bytes
+-- of its list. And every well-formed guard has a file, for whatever writes guards. Assumes nothing.
 use mathlib.Core.Path.{_≡_, refl, ap, sym, subst, _∙_}
 use mathlib.Core.List.{List, [], _∷_, _++_, append-nil, map}
 use Prim.Native.Nat.{ℕ, _≤_, _<_}
@@ -15,7 +15,7 @@ use Rattle.guard.specs.File.{bytes, file}
 use Rattle.guard.specs.Grammar.{fileOf}
 use Rattle.guard.specs.Guard.{Guard}
 use Rattle.guard.specs.Limits.{Limits, Supported, totalVariantLimit}
-use Rattle.guard.specs.Number.{Parsed.accepted, foldSigned, return, unfoldSigned, unsignedOf, valueWidth, width32}
+use Rattle.guard.specs.Number.{Parsed.accepted, Parsed.refused, foldSigned, return, unfoldSigned, unsignedOf, valueWidth, width32}
 use Rattle.guard.specs.Types.{Variant}
 use Rattle.guard.specs.WellFormed.{WellFormed}
 use Rattle.guard.proofs.Accepted.{source-ended}
@@ -24,10 +24,11 @@ use Rattle.encoding.specs.Encoding.{encoded, encodedValue}
 use Rattle.encoding.proofs.Parsers.{ask-inv, not-accepted}
 use Rattle.encoding.proofs.ReadBack.{read-back, value-read-back}
 use Rattle.encoding.proofs.WrittenBack.{value-written-back, written-back}
-use Rattle.serialize.specs.NumberList.{fits, listFile, numberList, unsignedBy}
+use Rattle.serialize.specs.NumberList.{fits, listFile, numberList, numberTypes, unsignedBy}
 use Rattle.serialize.specs.Tokens.{Fits, Token, bytesOf, guardTokens, listed, numbersOf, tokenBytes}
 use Rattle.serialize.proofs.Copying.{Copies, Form}
 use Rattle.serialize.proofs.CopiedFile.{copies-file}
+use Rattle.serialize.proofs.OneNumber.{numbers-refused, numbers-taken, taken-numbers}
 use Rattle.serialize.proofs.Taking.{TakesBefore}
 use Rattle.serialize.proofs.TakenFile.{takes-file}
 
@@ -113,8 +114,9 @@ unfold-all (z ∷ zs) = ap (λ (x : ℤ). x ∷ map unfoldSigned (map foldSigned
 module _ (limits : Limits) (sup : Supported limits) where
   -- "The desk reads the bytes back as that list"
   pub read-as-list : (zs : List ℤ) (g : Guard) (rest : List ℕ) → listFile limits zs ≡ accepted g rest → (file limits (bytesOf g) ≡ accepted g []) × (numbersOf g ≡ zs)
-  unfolding listFile file bytesOf numbersOf Copies Ends as-bytes as-list
-  read-as-list zs g rest e =
+  unfolding file bytesOf numbersOf Copies Ends as-bytes as-list
+  read-as-list zs g rest taken =
+      let e = taken-numbers limits zs g rest taken .0 in
       let (ks, is, fit, same, good, back) = copies-file as-list as-bytes limits sup (map foldSigned zs) g rest (all-anything (map foldSigned zs)) e in
       let nothing : rest ≡ [] = source-ended numberList limits (map foldSigned zs) g rest e in
       let folded : map foldSigned zs ≡ map foldSigned (map listed (guardTokens g)) = same ∙ ap (λ (l : List ℕ). concatMap one-number ks ++ l) nothing ∙ append-nil (concatMap one-number ks) ∙ one-each ks ∙ ap (λ (l : List Token). map foldSigned (map listed l)) is in (
@@ -124,19 +126,29 @@ module _ (limits : Limits) (sup : Supported limits) where
 
   -- every number of a list that is taken fits into a file
   pub tokens-fit : (zs : List ℤ) (g : Guard) (rest : List ℕ) → listFile limits zs ≡ accepted g rest → All Fits (guardTokens g)
-  unfolding listFile Copies as-bytes as-list
-  tokens-fit zs g rest e =
+  unfolding Copies as-bytes as-list
+  tokens-fit zs g rest taken =
+      let e = taken-numbers limits zs g rest taken .0 in
       let (ks, is, fit, same, good, back) = copies-file as-list as-bytes limits sup (map foldSigned zs) g rest (all-anything (map foldSigned zs)) e in subst (All Fits) is fit
 
-  -- "an accepted file, read and written, has the same bytes"
-  pub same-bytes : (bs : List ℕ) (g : Guard) (rest : List ℕ) → All (λ b. b < 256) bs → file limits bs ≡ accepted g rest → (listFile limits (numbersOf g) ≡ accepted g []) × (bytesOf g ≡ bs)
-  unfolding listFile file bytesOf numbersOf Copies Ends as-bytes as-list
-  same-bytes bs g rest small e =
+  -- the numbers of a file are taken as a file's, and have its bytes
+  file-numbers : (bs : List ℕ) (g : Guard) (rest : List ℕ) → All (λ b. b < 256) bs → file limits bs ≡ accepted g rest → (fileOf numberList limits (map foldSigned (numbersOf g)) ≡ accepted g []) × (bytesOf g ≡ bs)
+  unfolding file bytesOf numbersOf Copies Ends as-bytes as-list
+  file-numbers bs g rest small e =
       let (ks, is, fit, same, good, back) = copies-file as-bytes as-list limits sup bs g rest small e in
       let nothing : rest ≡ [] = source-ended bytes limits bs g rest e in (
         ap (λ (l : List Token). fileOf numberList limits (map foldSigned (map listed l))) (sym is) ∙ ap (fileOf numberList limits) (sym (one-each ks) ∙ sym (append-nil (concatMap one-number ks))) ∙ back [] refl,
         ap (concatMap tokenBytes) (sym is) ∙ sym (append-nil (concatMap tokenBytes ks)) ∙ ap (λ (l : List ℕ). concatMap tokenBytes ks ++ l) (sym nothing) ∙ sym same,
       )
+
+  -- "an accepted file, read and written, has the same bytes"; document 02, #112: "no longer produces files with two or more, and its
+  -- round trip now speaks of the others"
+  pub same-bytes : (bs : List ℕ) (g : Guard) (rest : List ℕ) → All (λ b. b < 256) bs → file limits bs ≡ accepted g rest → numberTypes (g .types) ≤ 1 → (listFile limits (numbersOf g) ≡ accepted g []) × (bytesOf g ≡ bs)
+  same-bytes bs g rest small e one = let (taken, same) = file-numbers bs g rest small e in (numbers-taken limits (numbersOf g) g [] taken one, same)
+
+  -- the numbers of the other files get 18
+  pub several-refused : (bs : List ℕ) (g : Guard) (rest : List ℕ) → All (λ b. b < 256) bs → file limits bs ≡ accepted g rest → 1 < numberTypes (g .types) → listFile limits (numbersOf g) ≡ refused 18
+  several-refused bs g rest small e several = numbers-refused limits (numbersOf g) g [] (file-numbers bs g rest small e .0) several
 
   -- the bytes of a well-formed guard are a file of it
   pub well-formed-file : (g : Guard) → WellFormed limits g → length (concatMap (λ (vs : List Variant). vs) (g .types)) ≤ totalVariantLimit → file limits (bytesOf g) ≡ accepted g []

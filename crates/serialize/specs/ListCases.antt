@@ -67,6 +67,17 @@ cases =
     ∷ refuses 7 (pos 1 ∷ pos 0 ∷ pos 1 ∷ pos 2 ∷ pos 0 ∷ [])
     ∷ refuses 8 (pos 1 ∷ pos 1 ∷ pos 1 ∷ pos 0 ∷ [])
     ∷ refuses 9 (pos 2 ∷ pos 1 ∷ pos 0 ∷ pos 1 ∷ pos 1 ∷ pos 0 ∷ [])
+    -- two number types, the list well-formed otherwise; and one that stops behind its types
+    ∷ refuses 18 (all-plain (2 ∷ 0 ∷ 0 ∷ 0 ∷ 0 ∷ []))
+    ∷ refuses 18 (all-plain (2 ∷ 0 ∷ 0 ∷ []))
+    -- two of three types, with numbers behind them that are no rows
+    ∷ refuses 18 (all-plain (3 ∷ 0 ∷ 1 ∷ 0 ∷ 0 ∷ 25 ∷ 4 ∷ []))
+    -- two number types, and questions that are asked before 18
+    ∷ refuses 2 (all-plain (3 ∷ 0 ∷ 0 ∷ []))
+    ∷ refuses 8 (all-plain (3 ∷ 0 ∷ 0 ∷ 1 ∷ 1 ∷ 2 ∷ []))
+    ∷ refuses 9 (all-plain (4 ∷ 0 ∷ 0 ∷ 1 ∷ 0 ∷ 1 ∷ 1 ∷ 2 ∷ []))
+    -- one number type of three
+    ∷ listed-bytes (3 ∷ 1 ∷ 0 ∷ 0 ∷ 1 ∷ 1 ∷ 1 ∷ 0 ∷ 0 ∷ [])
     -- "After the last line: has the file ended?"; numbers behind it are not asked
     ∷ refuses 10 (pos 0 ∷ pos 0 ∷ pos 0 ∷ negsuc 9223372036854775807 ∷ [])
     ∷ []

@@ -109,7 +109,7 @@ impl fmt::Display for Calls {
 
 /// Counts of the checker's, the writer's or the merge's answers, by number; 0 is that of what is accepted.
 #[derive(Clone, Copy, Debug, Default, PartialEq, Eq)]
-pub struct Numbered(pub [u64; 17]);
+pub struct Numbered(pub [u64; 19]);
 
 impl Numbered {
     /// An answer that was right.

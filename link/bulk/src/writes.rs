@@ -10,6 +10,8 @@ use oracle::encode::{Draft, Token};
 use oracle::guard::Limits;
 use oracle::list;
 use oracle::random::Random;
+use oracle::read::Question;
+use oracle::types::one_number_type;
 use oracle::vectors::lists::damaged;
 
 /// How many damaged lists are made from an accepted file.
@@ -51,9 +53,11 @@ impl Writer {
         };
         let tokens = Draft::of(guard).tokens(Limits::BASE);
         let whole = list::of_tokens(&tokens);
-        // "An accepted file, read and written, has the same bytes."
+        // "An accepted file, read and written, has the same bytes." Request #112: not one with several number types.
         for room in rooms(random, file.len()) {
-            let expected = if room < file.len() {
+            let expected = if !one_number_type(&guard.types) {
+                Err(Question::OneNumberType.number())
+            } else if room < file.len() {
                 Err(14)
             } else {
                 Ok(file.to_vec())

@@ -173,7 +173,8 @@ pub fn check(file: &[u8], record: &[u8]) -> u32 {
 /// are safe.
 ///
 /// It returns the number of bytes of the file; those behind them are zero. [`FILE_LENGTH`] bytes always suffice. A number below 0 is
-/// minus the first question that got a no, 2 to 10 of the list, or 14 if the file outgrows `out`; then all of `out` is zero.
+/// minus the first question that got a no, 2 to 10 of the list, 18 after 9 if more than one type is a number type, or 14 if the file
+/// outgrows `out`; then all of `out` is zero.
 #[allow(unsafe_code)]
 pub fn write_into(list: &[i64], out: &mut [u8]) -> i64 {
     // SAFETY: as in `decide_into`; `out` is written and borrowed mutably.

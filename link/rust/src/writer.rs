@@ -13,6 +13,7 @@ impl fmt::Display for Refusal {
         let why = match self.0 {
             2 => "the list ends before the guard does",
             10 => "numbers follow the last line",
+            18 => "more than one number type",
             question => why(question),
         };
         write!(f, "question {}: {why}", self.0)
@@ -22,7 +23,8 @@ impl fmt::Display for Refusal {
 impl std::error::Error for Refusal {}
 
 /// Writes the guard file of a list of its numbers, in file order and constants as their values. The desk takes what is written, and
-/// reads these numbers from it; that is proved, and that the numbers of a file that it takes are written as that file.
+/// reads these numbers from it; that is proved, and that the numbers of a file that it takes are written as that file if at most one
+/// of its types is a number type.
 ///
 /// ```
 /// use guarddesk::{decide, write, Answer, Refusal};
@@ -49,6 +51,7 @@ mod tests {
         assert_eq!(why(&[-1]), "question 4: a count is outside its limits");
         let longer = "question 10: numbers follow the last line";
         assert_eq!(why(&[0, 0, 0, i64::MIN]), longer);
+        assert_eq!(why(&[2, 0, 0]), "question 18: more than one number type");
     }
 
     #[test]

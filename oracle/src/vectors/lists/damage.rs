@@ -188,3 +188,25 @@ pub fn weak_types(random: &mut Random, _: &[Token]) -> Option<Vec<i64>> {
     }
     Some(list)
 }
+
+/// Two number types or more, among types of one message; behind them nothing,
+/// anything, or a guard without rows and lines.
+pub fn several_numbers(random: &mut Random, _: &[Token]) -> Option<Vec<i64>> {
+    let many = 2 + random.below(Limits::BASE.types - 1);
+    let mut list = vec![many as i64];
+    let mut numbers = 0;
+    for _ in 0..many {
+        if random.percent(60) {
+            list.push(0);
+            numbers += 1;
+        } else {
+            list.extend([1, 0]);
+        }
+    }
+    match random.below(3) {
+        0 => {}
+        1 => list.extend((0..=random.below(6)).map(|_| any(random))),
+        _ => list.extend([0, 0]),
+    }
+    (numbers >= 2).then_some(list)
+}

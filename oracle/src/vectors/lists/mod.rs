@@ -1,5 +1,6 @@
 //! Lists of request #102 with the writer's answers: those of the accepted
-//! vectors, damaged ones, and other output buffers.
+//! vectors, damaged ones, and other output buffers. Request #112: those with
+//! several number types are refused.
 
 mod damage;
 
@@ -9,6 +10,8 @@ use crate::encode::{self, Token};
 use crate::guard::Limits;
 use crate::list::{self, LONGEST_FILE};
 use crate::random::{edge_value, far_value, Random};
+use crate::read::Question;
+use crate::types::one_number_type;
 
 /// Of the accepted vectors each so many'th has its list kept, and each case of
 /// document 01.
@@ -24,6 +27,9 @@ const HEADER: &str = "\
 # buffer in bytes, LIST has spaces between its numbers and is - if empty. ANSWER is the guard
 # file in hexadecimal, or REFUSED and the refusal's number.
 ";
+
+/// Request #112: the writer's refusal of several number types.
+const SEVERAL_NUMBERS: u8 = Question::OneNumberType as u8;
 
 /// A list with the writer's answer.
 pub type Written = written::Written<Vec<i64>>;
@@ -61,7 +67,8 @@ type Make = fn(&mut Random, &[Token]) -> Option<Vec<i64>>;
 /// What is known of the answers to a family of lists.
 #[derive(Clone, Copy, PartialEq, Eq)]
 enum Answers {
-    /// The way the lists are made settles this refusal.
+    /// The way the lists are made settles this refusal, unless they are made of
+    /// several number types: then 18 may come before it.
     Settled(u8),
     /// Only those with this refusal are taken.
     Taken(u8),
@@ -73,10 +80,22 @@ enum Answers {
 
 use Answers::{Any, Formerly, Settled, Taken};
 
+impl Answers {
+    /// What the way of a list settles, made of this source.
+    fn settled(self, source: &Source) -> Option<Answer> {
+        match self {
+            Settled(question) if one_number(source) || question == SEVERAL_NUMBERS => {
+                Some(Err(question))
+            }
+            _ => None,
+        }
+    }
+}
+
 /// A family of lists: its name, how many, and their answers.
 type Family = (&'static str, usize, Answers, Make);
 
-const FAMILIES: [Family; 12] = [
+const FAMILIES: [Family; 13] = [
     ("cut", 60, Settled(2), damage::cut),
     ("far-value", 60, Formerly, damage::far_value),
     ("wrong-count", 60, Settled(4), damage::wrong_count),
@@ -89,6 +108,12 @@ const FAMILIES: [Family; 12] = [
     ("other-name", 20, Any, damage::other_name),
     ("chance", 100, Any, damage::chance),
     ("noise", 30, Any, damage::noise),
+    (
+        "several-numbers",
+        60,
+        Settled(SEVERAL_NUMBERS),
+        damage::several_numbers,
+    ),
 ];
 
 /// A list that isn't quite that of these numbers, if they allow it.
@@ -109,12 +134,10 @@ pub fn all(vectors: &[Vector]) -> Result<Vec<Written>, String> {
         set.fill(name, many, |random| {
             let source = one_of(random, &sources)?;
             let list = make(random, &source.tokens())?;
-            let settled = match answers {
-                Settled(question) => Some(Err(question)),
-                Taken(question) if answer(&list, ROOM) != Err(question) => return None,
-                Taken(_) | Formerly | Any => None,
-            };
-            Some((list, ROOM, settled))
+            match answers {
+                Taken(question) if answer(&list, ROOM) != Err(question) => None,
+                _ => Some((list, ROOM, answers.settled(source))),
+            }
         })?;
     }
     outputs(&mut set, &sources)?;
@@ -123,6 +146,20 @@ pub fn all(vectors: &[Vector]) -> Result<Vec<Written>, String> {
 
 fn list_of(source: &Source) -> Vec<i64> {
     list::of_tokens(&source.tokens())
+}
+
+/// Request #112: is at most one of its types a number type?
+fn one_number(source: &Source) -> bool {
+    one_number_type(&source.guard.types)
+}
+
+/// The answer to its list, which has this one if its types may be written.
+fn settled(source: &Source, answer: Answer) -> Answer {
+    if one_number(source) {
+        answer
+    } else {
+        Err(SEVERAL_NUMBERS)
+    }
 }
 
 /// The lists of accepted vectors, in buffers that fit exactly and others.
@@ -137,7 +174,8 @@ fn whole(set: &mut Set, sources: &[Source]) -> Result<(), String> {
             1 => ROOM,
             _ => ROOM + i,
         };
-        let new = (list_of(source), room, Some(Ok(source.file.clone())));
+        let expected = settled(source, Ok(source.file.clone()));
+        let new = (list_of(source), room, Some(expected));
         set.add(format!("of-{}", source.name), new)?;
     }
     Ok(())
@@ -149,7 +187,9 @@ fn values(set: &mut Set, sources: &[Source]) -> Result<(), String> {
         let source = one_of(random, sources)?;
         let tokens = damage::other_value(random, &source.tokens(), edge_value)?;
         let file = encode::bytes(&tokens);
-        Some((list::of_tokens(&tokens), file.len(), Some(Ok(file))))
+        let room = file.len();
+        let expected = settled(source, Ok(file));
+        Some((list::of_tokens(&tokens), room, Some(expected)))
     })
 }
 
@@ -163,7 +203,8 @@ fn far(set: &mut Set, sources: &[Source], later: &[Source]) -> Result<(), String
             1 => LONGEST_FILE,
             _ => LONGEST_FILE + i,
         };
-        let new = (list_of(source), room, Some(Ok(source.file.clone())));
+        let expected = settled(source, Ok(source.file.clone()));
+        let new = (list_of(source), room, Some(expected));
         set.add(format!("of-{}", source.name), new)?;
     }
     for (name, many, short) in [("far-constant", 60, 0), ("far-short-output", 20, 1)] {
@@ -172,8 +213,8 @@ fn far(set: &mut Set, sources: &[Source], later: &[Source]) -> Result<(), String
             let tokens = damage::other_value(random, &source.tokens(), far_value)?;
             let file = encode::bytes(&tokens);
             let room = file.len() - short;
-            let settled = if short == 0 { Ok(file) } else { Err(14) };
-            Some((list::of_tokens(&tokens), room, Some(settled)))
+            let expected = settled(source, if short == 0 { Ok(file) } else { Err(14) });
+            Some((list::of_tokens(&tokens), room, Some(expected)))
         })?;
     }
     Ok(())
@@ -186,18 +227,16 @@ fn outputs(set: &mut Set, sources: &[Source]) -> Result<(), String> {
         let source = one_of(random, sources)?;
         let length = source.file.len();
         let room = [0, random.below(length), length - 1, length - 1][random.below(4)];
-        Some((list_of(source), room, Some(Err(14))))
+        Some((list_of(source), room, Some(settled(source, Err(14)))))
     })?;
     set.fill("refused-short-output", 36, |random| {
         let source = one_of(random, sources)?;
         let (_, _, answers, make) = FAMILIES[random.below(FAMILIES.len())];
-        let settled = match answers {
-            Settled(question) => Some(Err(question)),
-            Formerly => None,
-            Taken(_) | Any => return None,
-        };
+        if matches!(answers, Taken(_) | Any) {
+            return None;
+        }
         let list = make(random, &source.tokens())?;
-        Some((list, random.below(3), settled))
+        Some((list, random.below(3), answers.settled(source)))
     })
 }
 
