@@ -7,6 +7,7 @@ use native.Mathlib.Omega.{arith}
 use lib.Dec.{leb}
 use lib.ListN.{length, replicate, take}
 use lib.Seq.{take-at}
+use borrow.Author.Tests.{le-leb}
 use Rattle.laws.proofs.Bools.{by-test}
 use Rattle.guard.specs.Guard.{Guard}
 use Rattle.guard.specs.Number.{Parsed, Parsed.accepted, Parsed.refused}
@@ -60,3 +61,8 @@ few-told (refused q) n most h = omega arith
 few-told (accepted g rest) n most h =
     by-test (leb (length (bytesOf g)) n) (λ q. subst (λ (w : FileWritten). w .bytes ≤ most) (sym (by-length g rest n true q)) (h g rest refl))
     (λ q. subst (λ (w : FileWritten). w .bytes ≤ most) (sym (by-length g rest n false q)) (omega arith))
+
+-- a buffer with room for the bytes isn't too short
+pub room-told : {p : Parsed Guard} {g : Guard} {rest : List ℕ} → p ≡ accepted g rest → (n : ℕ) → length (bytesOf g) ≤ n → answerTo p n .refused ≡ 0
+room-told {p} {g} {rest} is n h =
+    ap (λ (x : Parsed Guard). answerTo x n .refused) is ∙ ap (λ (w : FileWritten). w .refused) (by-length g rest n true (le-leb (length (bytesOf g)) n h))

@@ -22,7 +22,7 @@ use Rattle.bytebuffer.proofs.FillLaws.{filled-with}
 use Rattle.serialize.proofs.Questions.{list-question}
 use Rattle.filewriter.specs.declared.FileWritten.{FileWritten}
 use Rattle.filewriter.specs.Writer.{answerTo, leftBy}
-use Rattle.filewriter.proofs.Answers.{by-length, bytes-back, few-told}
+use Rattle.filewriter.proofs.Answers.{by-length, bytes-back, few-told, room-told}
 
 module _ (zs : List ℤ) (n : ℕ) (z : answerTo (listFile base zs) n .refused ≡ 0) where
   abbrev produced : List ℕ
@@ -75,6 +75,4 @@ pub few-bytes : (zs : List ℤ) (n : ℕ) → answerTo (listFile base zs) n .byt
 few-bytes zs n = few-told (listFile base zs) n 585 (written-bytes zs)
 
 pub never-short : (zs : List ℤ) (g : Guard) (rest : List ℕ) (n : ℕ) → listFile base zs ≡ accepted g rest → 585 ≤ n → answerTo (listFile base zs) n .refused ≡ 0
-never-short zs g rest n e h =
-    ap (λ (p : Parsed Guard). answerTo p n .refused) e
-    ∙ ap (λ (w : FileWritten). w .refused) (by-length g [] n true (le-leb (length (bytesOf g)) n (omega (arith, written-bytes zs g rest e))))
+never-short zs g rest n e h = room-told e n (omega (arith, written-bytes zs g rest e))

@@ -50,11 +50,11 @@ allRows g = concatMap tokenBytes (plain (length (g .rows)) ∷ concatMap rowToke
 abbrev pub allLiterals : Guard → List ℕ
 allLiterals g = concatMap tokenBytes (plain (length (g .literals)) ∷ concatMap literalTokens (g .literals))
 
-pub record PutsAllRows (first second : Tables) (n : Names) (out : List ℕ) (at : ℕ) (end : End) (out′ : List ℕ) : Type 0 where
+pub record PutsAllRows (first second : Tables) (out : List ℕ) (at : ℕ) (end : End) (out′ : List ℕ) : Type 0 where
   pub puts : (g h : Guard) → BothOf first second g h → Puts (allRows (merged g h)) out at end out′
 
-pub record PutsAllLiterals (first second : Tables) (n : Names) (out : List ℕ) (at : ℕ) (end : End) (out′ : List ℕ) : Type 0 where
+pub record PutsAllLiterals (first second : Tables) (out : List ℕ) (at : ℕ) (end : End) (out′ : List ℕ) : Type 0 where
   pub puts : (g h : Guard) → BothOf first second g h → Puts (allLiterals (merged g h)) out at end out′
 
-pub record PutsMerged (first second : Tables) (n : Names) (out : List ℕ) (end : End) (out′ : List ℕ) : Type 0 where
+pub record PutsMerged (first second : Tables) (out : List ℕ) (end : End) (out′ : List ℕ) : Type 0 where
   pub puts : (g h : Guard) → BothOf first second g h → Puts (bytesOf (merged g h)) out 0 end out′

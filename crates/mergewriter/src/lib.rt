@@ -44,7 +44,7 @@ fn own_names() -> [u8; 24]
 fn put_all_rows(first: Tables, second: Tables, n: Names, out: &mut [u8], at: usize) -> End
     requires { ⌜ at ≤ length (now out) ⌝ }
     requires { ⌜ Merging first second n ⌝ }
-    ensures { λ r. ⌜ PutsAllRows first second n (now (out .entry)) at r (now (out .exit)) ⌝ }
+    ensures { λ r. ⌜ PutsAllRows first second (now (out .entry)) at r (now (out .exit)) ⌝ }
 {
     let counted = bytebuffer::put_one(out, at, n.rows as u8);
     if !counted.fits {
@@ -65,7 +65,7 @@ fn put_all_rows(first: Tables, second: Tables, n: Names, out: &mut [u8], at: usi
 fn put_all_literals(first: Tables, second: Tables, n: Names, out: &mut [u8], at: usize) -> End
     requires { ⌜ at ≤ length (now out) ⌝ }
     requires { ⌜ Merging first second n ⌝ }
-    ensures { λ r. ⌜ PutsAllLiterals first second n (now (out .entry)) at r (now (out .exit)) ⌝ }
+    ensures { λ r. ⌜ PutsAllLiterals first second (now (out .entry)) at r (now (out .exit)) ⌝ }
 {
     let ones = first.literals;
     let others = second.literals;
@@ -85,7 +85,7 @@ fn put_all_literals(first: Tables, second: Tables, n: Names, out: &mut [u8], at:
 // The merged file, from the start of the buffer on.
 pub fn put_merged(first: Tables, second: Tables, n: Names, out: &mut [u8]) -> End
     requires { ⌜ Merging first second n ⌝ }
-    ensures { λ r. ⌜ PutsMerged first second n (now (out .entry)) r (now (out .exit)) ⌝ }
+    ensures { λ r. ⌜ PutsMerged first second (now (out .entry)) r (now (out .exit)) ⌝ }
 {
     let typed = typewriter::put_types(first.types, out, 0);
     if !typed.fits {
