@@ -1,7 +1,7 @@
 -- An accepted file holds a well-formed guard, and is no longer than the limits allow: question by question, along the
 -- file. Assumes nothing.
 use mathlib.Core.Path.{_≡_, refl, ap, sym, subst, _∙_}
-use mathlib.Core.List.{List, [], _∷_, map, _++_}
+use mathlib.Core.List.{List, [], _∷_, map, _++_, List·Memᴰ·not-nil}
 use Prim.Native.Nat.{ℕ, zero, suc, _+_, _*_, _≤_, _<_}
 use native.Mathlib.Omega.{arith}
 use lib.ListN.{length, getD, length-append, List·getD-append}
@@ -11,19 +11,19 @@ use mathlib.Core.Bool.{_&&_, false, not, true, false≢true}
 use lib.Seq.{getD-append-seam}
 use mathlib.Core.Option.{none, some}
 use Rattle.laws.specs.All.{All, All.more, All.none}
-use Rattle.laws.specs.Lists.{all}
+use Rattle.laws.specs.Lists.{all, concatMap}
 use Rattle.laws.proofs.Bools.{and-left, and-right, by-test}
 use Rattle.laws.proofs.Lists.{all-getD, all-mem, map-cong, map-from-length}
 use Rattle.guard.specs.File.{bytes, count, file, kind, literal, literalOf, name, parts, rowOf, rows, termAndVariant, twoTerms, types, variant, variantTerm}
-use Rattle.guard.specs.Grammar.{Source, ended, fileOf}
+use Rattle.guard.specs.Grammar.{Source, ended, fileOf, withHead}
 use Rattle.guard.specs.Grammar as grammar
 use Rattle.guard.specs.Guard.{Guard, Literal, Literal.equal, Literal.is, Literal.isnt, Literal.unequal, Row, Row.built, Row.constant, Row.field, Row.variable, noRow, rowAt, typeAt, typeOf}
 use Rattle.guard.specs.Limits.{Limits, Supported, fieldLimit, totalVariantLimit, variantLimit}
 use Rattle.guard.specs.Message.{Message}
-use Rattle.guard.specs.Number.{Parsed.accepted, _>>=_, _>>_, ask, return, times, unfoldSigned, unsigned, unsignedOf, valueWidth, width32}
+use Rattle.guard.specs.Number.{Parsed.accepted, Parser, _>>=_, _>>_, ask, return, times, unfoldSigned, unsigned, unsignedOf, valueWidth, width32}
 use Rattle.guard.specs.Types.{Defaults, Types, Variant, allDefaults, defaultRounds, defaults, fieldsOf, firstDefault, infiniteFields, isNumber, isSome, nextDefault, variantsOf}
 use Rattle.guard.specs.WellFormed.{LiteralFits, RowFits, WellFormed}
-use Rattle.guard.proofs.Reading.{Ends, Reads, ends-bind, fold-unfold, reads-asked, reads-bind, reads-return, reads-times, reads-unsigned, reads-unsigned-of, reads-weaken}
+use Rattle.guard.proofs.Reading.{Ends, Reads, ends-bind, fold-unfold, reads-after, reads-asked, reads-bind, reads-return, reads-times, reads-unsigned, reads-unsigned-of, reads-weaken}
 
 module _ {A : Type 0} where
   abbrev And : (A → Type 0) → ℕ → A → ℕ → Type 0
@@ -63,11 +63,16 @@ reads-variant many small =
     (λ f u h. reads-weaken (times f (name many)) (λ xs w. (length xs ≡ f) × All (λ i. i < many) xs × (w ≤ f * 1)) (λ xs w. VariantFits many xs × (u + w ≤ 4))
     (reads-times f 1 (name many) (λ i. i < many) (reads-name many small)) (λ xs w p. ((omega (arith, p .0, h .0), p .1), omega (arith, h .0, h .1, p .2))))
 
--- each type takes a byte, and each variant at most four
-reads-types : (left many total : ℕ) → many ≤ 128 → total ≤ totalVariantLimit
-    → Reads (types left many total) (λ ts u. (length ts ≡ left) × All (TypeFits many) ts × (u + 4 * total ≤ left + 4 * totalVariantLimit))
-reads-types zero many total small fit =
-    reads-return [] (λ ts u. (length ts ≡ 0) × All (TypeFits many) ts × (u + 4 * total ≤ 0 + 4 * totalVariantLimit)) (refl, none, omega arith)
+-- all variants, type by type
+abbrev pub variantsIn : Types → List Variant
+variantsIn ts = concatMap (λ vs. vs) ts
+
+-- types behind others with so many variants: each takes a byte, and each variant at most four
+abbrev TypesFit : ℕ → ℕ → ℕ → Types → ℕ → Type 0
+TypesFit left many total ts u = (length ts ≡ left) × All (TypeFits many) ts × (total + length (variantsIn ts) ≤ totalVariantLimit) × (u + 4 * total ≤ left + 4 * totalVariantLimit)
+
+reads-types : (left many total : ℕ) → many ≤ 128 → total ≤ totalVariantLimit → Reads (types left many total) (TypesFit left many total)
+reads-types zero many total small fit = reads-return [] (TypesFit 0 many total) (refl, none, omega arith, omega arith)
 reads-types (suc left) many total small fit =
     reads-bind unsigned _ (λ n u. (n ≤ width32 .most) × (u ≤ 5) × (n < 128 → u ≤ 1)) (Good (λ z. z)) reads-unsigned
     (λ v u h. reads-asked 4 (leb v variantLimit && leb (total + v) totalVariantLimit) _ (Good (λ z. u + z)) (λ e.
@@ -75,13 +80,12 @@ reads-types (suc left) many total small fit =
     let m : total + v ≤ totalVariantLimit = leb-true (total + v) totalVariantLimit (and-right (leb v variantLimit) (leb (total + v) totalVariantLimit) e) in
     let one : u ≤ 1 = h .2 (omega arith) in
     reads-bind (times v (variant many)) _ (λ vs w. (length vs ≡ v) × All (VariantFits many) vs × (w ≤ v * 4)) (Good (λ z. u + z)) (reads-times v 4 (variant many) (VariantFits many) (reads-variant many small))
-    (λ vs w hv. reads-bind (types left many (total + v)) _ (λ ts x. (length ts ≡ left) × All (TypeFits many) ts × (x + 4 * (total + v) ≤ left + 4 * totalVariantLimit)) (Good (λ z. u + (w + z)))
-    (reads-types left many (total + v) small m)
+    (λ vs w hv. reads-bind (types left many (total + v)) _ (TypesFit left many (total + v)) (Good (λ z. u + (w + z))) (reads-types left many (total + v) small m)
     (λ ts x ht. reads-return (vs ∷ ts) (Good (λ z. u + (w + (x + z))))
-    (ap suc (ht .0), more (omega (arith, hv .0), hv .1) (ht .1), omega (arith, hv .2, ht .2))))))
+    (ap suc (ht .0), more (omega (arith, hv .0), hv .1) (ht .1), omega (arith, hv .0, ht .2, length-append vs (variantsIn ts)), omega (arith, hv .2, ht .3))))))
   where
     Good : (ℕ → ℕ) → Types → ℕ → Type 0
-    Good bytes ts z = (length ts ≡ suc left) × All (TypeFits many) ts × (bytes z + 4 * total ≤ suc left + 4 * totalVariantLimit)
+    Good bytes ts z = TypesFit (suc left) many total ts (bytes z)
 
 -- ---- term rows
 
@@ -230,20 +234,45 @@ variants-at many [] none v = (omega arith, none)
 variants-at many (x ∷ xs) (more a bs) zero = a
 variants-at many (x ∷ xs) (more a bs) (suc v) = variants-at many xs bs v
 
--- T and N and L; a byte for each type; four for each variant, those of a constant for each row, three for each line
+-- T and N; a byte for each type; four for each variant, those of a constant for each row
+abbrev pub longestHead : Limits → ℕ
+longestHead limits = 2 + limits .types + 4 * totalVariantLimit + suc rowBytes * limits .terms
+
+-- L, and three for each line
 abbrev pub longestFile : Limits → ℕ
-longestFile limits = 3 + limits .types + 4 * totalVariantLimit + suc rowBytes * limits .terms + 3 * limits .lines
+longestFile limits = longestHead limits + (1 + 3 * limits .lines)
 
-reads-ended : Reads ended (λ x u. u ≡ 0)
-unfolding Reads
-reads-ended [] a rest e = let q : [] ≡ rest = cc in (0, ap length q ∙ omega arith, refl)
-reads-ended (b ∷ bs) a rest e = let z : _≡_ {A = ℕ} 0 1 = cc in absurd (omega arith)
+-- other lines under the same types and rows, as many as another limit allows
+abbrev pub withLines : Limits → ℕ → Limits
+withLines limits l = record { types = limits .types; terms = limits .terms; lines = l; rows = limits .rows }
 
-reads-file : (limits : Limits) → Supported limits → Reads (file limits) (λ g u. WellFormed limits g × (u ≤ longestFile limits))
-unfolding file
-reads-file limits sup =
+pub with-literals : (limits : Limits) (g : Guard) → WellFormed limits g → (l : ℕ) (ls : List Literal) → length ls ≤ l → All (LiteralFits (g .types) (g .rows)) ls
+    → WellFormed (withLines limits l) (record { types = g .types; rows = g .rows; literals = ls })
+with-literals limits g ok l ls few fit =
+    record {
+      typeCount = ok .typeCount;
+      variantCounts = ok .variantCounts;
+      fieldCounts = ok .fieldCounts;
+      fieldTypes = ok .fieldTypes;
+      ready = ok .ready;
+      infinite = ok .infinite;
+      termCount = ok .termCount;
+      rows = ok .rows;
+      lineCount = few;
+      literals = λ l m. all-mem fit l m;
+    }
+
+-- a guard without lines
+abbrev pub headGuard : Types → List Row → Guard
+headGuard ts rs = record { types = ts; rows = rs; literals = [] }
+
+-- what is read behind the types and the rows may rely on them
+pub reads-head : (A : Type 0) (limits : Limits) → Supported limits → (next : Types → List Row → Parser A) (Q : A → Type 0) (most : ℕ)
+    → ((ts : Types) (rs : List Row) → WellFormed limits (headGuard ts rs) → length (variantsIn ts) ≤ totalVariantLimit → Reads (next ts rs) (λ a u. Q a × (u ≤ most)))
+    → Reads (withHead bytes limits next) (λ a u. Q a × (u ≤ longestHead limits + most))
+reads-head A limits sup next Q most then =
     reads-bind (count (limits .types)) _ (And (λ n. n ≤ limits .types) 1) (Good (λ z. z)) (reads-count (limits .types) (omega (arith, sup .types)))
-    (λ many b1 hm. reads-bind (types many many 0) _ (λ ts u. (length ts ≡ many) × All (TypeFits many) ts × (u + 4 * 0 ≤ many + 4 * totalVariantLimit)) (Good (λ z. b1 + z)) (reads-types many many 0 (omega (arith, hm .0, sup .types)) (omega arith))
+    (λ many b1 hm. reads-bind (types many many 0) _ (TypesFit many many 0) (Good (λ z. b1 + z)) (reads-types many many 0 (omega (arith, hm .0, sup .types)) (omega arith))
     (λ ts b2 ht. reads-asked 8 (allDefaults ts) _ (Good (λ z. b1 + (b2 + z))) (λ e8. reads-asked 9 (infiniteFields ts) _ (Good (λ z. b1 + (b2 + z))) (λ e9.
     let tf : (t : ℕ) → TypeFits many (variantsOf ts t) = types-at many ts (ht .1) in
     let vf : (t v : ℕ) → VariantFits many (fieldsOf ts t v) = λ t v. variants-at many (variantsOf ts t) (tf t .1) v in
@@ -251,33 +280,67 @@ reads-file limits sup =
     reads-bind (count (limits .terms)) _ (And (λ n. n ≤ limits .terms) 1) (Good (λ z. b1 + (b2 + z))) (reads-count (limits .terms) (omega (arith, sup .terms)))
     (λ n b3 hn. reads-bind (rows n ts []) _ (λ xs u. (length xs ≡ n + 0) × RowsFit ts xs × (u ≤ suc rowBytes * n)) (Good (λ z. b1 + (b2 + (b3 + z))))
     (reads-rows ts few (λ t. tf t .0) (λ t v. vf t v .0) n [] (omega (arith, hn .0, sup .terms)) (λ i h. absurd (omega arith)))
-    (λ rs b4 hr. reads-bind (count (limits .lines)) _ (And (λ n. n ≤ limits .lines) 1) (Good (λ z. b1 + (b2 + (b3 + (b4 + z))))) (reads-count (limits .lines) (omega (arith, sup .lines)))
-    (λ l b5 hl. reads-bind (times l (literal ts rs)) _ (λ ls u. (length ls ≡ l) × All (LiteralFits ts rs) ls × (u ≤ l * 3)) (Good (λ z. b1 + (b2 + (b3 + (b4 + (b5 + z))))))
-    (reads-times l 3 (literal ts rs) (LiteralFits ts rs) (reads-literal ts rs (omega (arith, hr .0, hn .0, sup .terms)) few (λ t. tf t .0) (λ t v. vf t v .0)))
-    (λ ls b6 hls. reads-bind ended _ (λ x u. u ≡ 0) (Good (λ z. b1 + (b2 + (b3 + (b4 + (b5 + (b6 + z))))))) reads-ended
-    (λ x b7 h7. reads-return (record { types = ts; rows = rs; literals = ls }) (Good (λ z. b1 + (b2 + (b3 + (b4 + (b5 + (b6 + (b7 + z)))))))) (
-      record {
-        typeCount = omega (arith, ht .0, hm .0);
-        variantCounts = λ t. tf t .0;
-        fieldCounts = λ t v. vf t v .0;
-        fieldTypes = λ t v. subst (λ (k : ℕ). All (λ f. f < k) (fieldsOf ts t v)) (sym (ht .0)) (vf t v .1);
-        ready = λ t h. all-some (defaults ts) t e8 (omega (arith, defaults-length (length ts) ts));
-        infinite = e9;
-        termCount = omega (arith, hr .0, hn .0);
-        rows = hr .1;
-        lineCount = omega (arith, hls .0, hl .0);
-        literals = λ l m. all-mem (hls .1) l m;
-      },
-      omega (arith, hm .0, hm .1, ht .2, hn .0, hn .1, hr .2, hl .0, hl .1, hls .2, h7),
-    ))))))))))
+    (λ rs b4 hr. reads-weaken (next ts rs) (λ a u. Q a × (u ≤ most)) (Good (λ z. b1 + (b2 + (b3 + (b4 + z)))))
+    (then ts rs (
+    record {
+      typeCount = omega (arith, ht .0, hm .0);
+      variantCounts = λ t. tf t .0;
+      fieldCounts = λ t v. vf t v .0;
+      fieldTypes = λ t v. subst (λ (k : ℕ). All (λ f. f < k) (fieldsOf ts t v)) (sym (ht .0)) (vf t v .1);
+      ready = λ t h. all-some (defaults ts) t e8 (omega (arith, defaults-length (length ts) ts));
+      infinite = e9;
+      termCount = omega (arith, hr .0, hn .0);
+      rows = hr .1;
+      lineCount = omega arith;
+      literals = λ l m. absurd (List·Memᴰ·not-nil m);
+    }) (omega (arith, ht .2)))
+    (λ a u h. (h .0, omega (arith, hm .0, hm .1, ht .3, hn .0, hn .1, hr .2, h .1)))))))))
+  where
+    Good : (ℕ → ℕ) → A → ℕ → Type 0
+    Good bytes a z = Q a × (bytes z ≤ longestHead limits + most)
+
+-- L and the lines, under types and rows that fit
+abbrev pub LinesFit : Limits → Types → List Row → List Literal → ℕ → Type 0
+LinesFit limits ts rs ls u = (length ls ≤ limits .lines) × All (LiteralFits ts rs) ls × (u ≤ 1 + 3 * limits .lines)
+
+pub reads-lines : (limits : Limits) → Supported limits → (ts : Types) (rs : List Row) → WellFormed limits (headGuard ts rs)
+    → Reads (count (limits .lines) >>= λ l. times l (literal ts rs)) (LinesFit limits ts rs)
+reads-lines limits sup ts rs ok =
+    reads-bind (count (limits .lines)) _ (And (λ n. n ≤ limits .lines) 1) (LinesFit limits ts rs) (reads-count (limits .lines) (omega (arith, sup .lines)))
+    (λ l b hl. reads-weaken (times l (literal ts rs)) (λ ls u. (length ls ≡ l) × All (LiteralFits ts rs) ls × (u ≤ l * 3)) (λ ls u. (length ls ≤ limits .lines) × All (LiteralFits ts rs) ls × (b + u ≤ 1 + 3 * limits .lines))
+    (reads-times l 3 (literal ts rs) (LiteralFits ts rs) (reads-literal ts rs (omega (arith, ok .termCount, sup .terms)) (omega (arith, ok .typeCount, sup .types)) (ok .variantCounts) (ok .fieldCounts)))
+    (λ ls u h. (omega (arith, h .0, hl .0), h .1, omega (arith, h .2, hl .0, hl .1))))
+
+pub reads-ended : Reads ended (λ x u. u ≡ 0)
+unfolding Reads
+reads-ended [] a rest e = let q : [] ≡ rest = cc in (0, ap length q ∙ omega arith, refl)
+reads-ended (b ∷ bs) a rest e = let z : _≡_ {A = ℕ} 0 1 = cc in absurd (omega arith)
+
+-- what is known of an accepted guard
+abbrev Accepted : Limits → Guard → Type 0
+Accepted limits g = WellFormed limits g × (length (variantsIn (g .types)) ≤ totalVariantLimit)
+
+reads-file : (limits : Limits) → Supported limits → Reads (file limits) (λ g u. Accepted limits g × (u ≤ longestFile limits))
+unfolding file
+reads-file limits sup =
+    reads-head Guard limits sup _ (Accepted limits) (1 + 3 * limits .lines)
+    (λ ts rs ok total. reads-after (count (limits .lines)) (λ l. times l (literal ts rs)) _ (LinesFit limits ts rs) (Good (λ z. z)) (reads-lines limits sup ts rs ok)
+    (λ ls b h. reads-bind ended _ (λ x u. u ≡ 0) (Good (λ z. b + z)) reads-ended
+    (λ x b7 h7. reads-return (record { types = ts; rows = rs; literals = ls }) (Good (λ z. b + (b7 + z)))
+    ((with-literals limits (headGuard ts rs) ok (limits .lines) ls (h .0) (h .1), total), omega (arith, h .2, h7)))))
   where
     Good : (ℕ → ℕ) → Guard → ℕ → Type 0
-    Good bytes g z = WellFormed limits g × (bytes z ≤ longestFile limits)
+    Good bytes g z = Accepted limits g × (bytes z ≤ 1 + 3 * limits .lines)
 
 -- an accepted file holds a well-formed guard
 pub accepted-well-formed : (limits : Limits) → Supported limits → (bytes : List ℕ) (g : Guard) (rest : List ℕ) → file limits bytes ≡ accepted g rest → WellFormed limits g
 unfolding Reads
-accepted-well-formed limits sup bytes g rest e = let (u, l, h) = reads-file limits sup bytes g rest e in h .0
+accepted-well-formed limits sup bytes g rest e = let (u, l, h) = reads-file limits sup bytes g rest e in h .0 .0
+
+-- with at most 48 variants in all, since question 4 is asked of each type
+pub accepted-total : (limits : Limits) → Supported limits → (bytes : List ℕ) (g : Guard) (rest : List ℕ) → file limits bytes ≡ accepted g rest → length (variantsIn (g .types)) ≤ totalVariantLimit
+unfolding Reads
+accepted-total limits sup bytes g rest e = let (u, l, h) = reads-file limits sup bytes g rest e in h .0 .1
 
 -- after the last literal there is nothing left, wherever the numbers come from
 pub source-ended : (src : Source) (limits : Limits) → Ends (fileOf src limits)

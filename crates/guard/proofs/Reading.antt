@@ -35,6 +35,17 @@ module _ {A B : Type 0} where
           let (w, lw, qw) = hf a u pu mid b rest e′ in
           (u + w, omega arith, qw)
 
+module _ {A B C : Type 0} where
+  -- a parser after two, of which something is known together
+  pub reads-after : (p : Parser A) (f : A → Parser B) (g : B → Parser C) (P : B → ℕ → Type 0) (Q : C → ℕ → Type 0)
+      → Reads (p >>= f) P → ((b : B) (u : ℕ) → P b u → Reads (g b) (λ c w. Q c (u + w))) → Reads (p >>= λ a. f a >>= g) Q
+  unfolding Reads
+  reads-after p f g P Q hp hg bs c rest e = go (p bs) refl e
+    where
+      go : (r : Parsed A) → p bs ≡ r → andThen (λ a. f a >>= g) r ≡ accepted c rest → (u : ℕ) × (length bs ≡ u + length rest) × Q c u
+      go (refused q) h e′ = absurd (not-accepted q c rest e′)
+      go (accepted a mid) h e′ = reads-bind (p >>= f) g P Q hp hg bs c rest (ap (λ (r : Parsed A). andThen g (andThen f r)) h ∙ e′)
+
 module _ {A : Type 0} where
   pub reads-return : (a : A) (P : A → ℕ → Type 0) → P a 0 → Reads (return a) P
   unfolding Reads

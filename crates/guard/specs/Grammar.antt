@@ -131,16 +131,24 @@ module _ (src : Source) where
   abbrev pub literal : Types → List Row → Parser Literal
   literal ts rs = kind >>= literalOf ts rs
 
-  -- "The file holds, in order: T .., then for each type V ..; N .., then N term rows; L .., then L lines."
-  abbrev pub fileOf : Limits → Parser Guard
-  fileOf limits = do
+  -- ---- the file
+
+  -- "The file holds, in order: T .., then for each type V ..; N .., then N term rows; ..": these, with the questions 8 and 9 between them, and then
+  -- what `next` reads
+  abbrev pub withHead : {A : Type 0} → Limits → (Types → List Row → Parser A) → Parser A
+  withHead limits next = do
     many ← count (limits .types)
     ts ← types many many 0
     ask 8 (allDefaults ts)
     ask 9 (infiniteFields ts)
     n ← count (limits .terms)
     rs ← rows n ts []
+    next ts rs
+
+  -- ".. L .., then L lines."
+  abbrev pub fileOf : Limits → Parser Guard
+  fileOf limits = withHead limits (λ ts rs. do
     l ← count (limits .lines)
     ls ← times l (literal ts rs)
     ended
-    return (record { types = ts; rows = rs; literals = ls })
+    return (record { types = ts; rows = rs; literals = ls }))

@@ -1,3 +1,4 @@
 pub mod LiteralLaws
 pub mod LiteralReaderLaws
 pub mod TidyLiterals
+pub mod Ending

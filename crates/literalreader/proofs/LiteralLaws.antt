@@ -1,4 +1,4 @@
--- Literals one after the other into their columns; the end of the file. Assumes nothing.
+-- Literals one after the other into their columns. Assumes nothing.
 use mathlib.Core.Path.{_≡_, refl, ap, sym, subst, _∙_}
 use mathlib.Core.List.{List, [], _∷_, _++_, map}
 use Prim.Native.Nat.{ℕ, suc, _+_, _-_, _≤_, _<_}
@@ -6,7 +6,6 @@ use native.Mathlib.Omega.{arith}
 use lib.ListN.{length, drop, set, length-append, length-drop}
 use Rattle.guard.specs.Guard.{Literal}
 use Rattle.guard.specs.File.{count, kind}
-use Rattle.guard.specs.Grammar.{ended}
 use Rattle.guard.specs.Number.{Parsed, Parsed.accepted, Parsed.refused, Parser, _>>=_, _>>_, andThen, return, times}
 use Rattle.guard.proofs.Repeats.{after, after-none, times-done, times-next, times-stop}
 use Rattle.tables.specs.Layout.{literalKind, literalOther, literalTable, literalTerm, pad}
@@ -17,7 +16,7 @@ use Rattle.numbers.proofs.NumberLaws.{count-is}
 use Rattle.numbers.proofs.Answers.{below-says, goes-on, stops}
 use Rattle.literalkinds.specs.declared.LiteralRead.{LiteralRead}
 use Rattle.literalkinds.specs.OneLiteral.{LiteralSays, literalBy}
-use Rattle.literalreader.specs.LiteralReader.{asLiterals, literalsAt, noLiterals}
+use Rattle.literalreader.specs.LiteralReader.{asLines, linesAt, noLines}
 
 -- ---- the literals
 
@@ -75,14 +74,11 @@ module _ (p : Parser Literal) (bytes : List ℕ) (many start : ℕ) where
         let o = read .otherColumn in
         cc
 
--- ---- the count before them, and the end after them
+-- ---- the count before them
 
 module _ (bytes : List ℕ) (at limit : ℕ) (counts : List ℕ) (rows : ℕ) (us : List ℕ) (n : Number) (isN : n ≡ belowAt bytes at (limit + 1) 4) where
   abbrev one : Parser Literal
   one = literalBy counts rows us
-
-  abbrev behind : Parsed (List Literal) → Parsed (List Literal)
-  behind r = andThen (λ ls. ended >> return ls) r
 
   counted : Says bytes (count limit (drop at bytes)) (n .refused) (n .at) (n .value)
   counted =
@@ -90,35 +86,22 @@ module _ (bytes : List ℕ) (at limit : ℕ) (counts : List ℕ) (rows : ℕ) (u
       subst (λ (r : Parsed ℕ). Says bytes r (n .refused) (n .at) (n .value)) (ap (λ (k : ℕ). below k 4 (drop at bytes)) e ∙ sym (count-is limit (drop at bytes)))
       (below-says bytes at (limit + 1) 4 (omega arith) n isN)
 
-  pub count-stops : ¬ (n .refused ≡ 0) → noLiterals (n .refused) ≡ literalsAt bytes at limit counts rows us
-  unfolding literalsAt asLiterals
-  count-stops h = sym (ap asLiterals (stops (λ l. times l one >>= λ ls. ended >> return ls) bytes _ (n .refused) (n .at) (n .value) counted h))
+  pub count-stops : ¬ (n .refused ≡ 0) → noLines (n .refused) ≡ linesAt bytes at limit counts rows us
+  unfolding linesAt asLines
+  count-stops h = sym (ap (asLines bytes) (stops (λ l. times l one) bytes _ (n .refused) (n .at) (n .value) counted h))
 
   module _ (countRead : n .refused ≡ 0) where
-    at-literals : literalsAt bytes at limit counts rows us ≡ asLiterals (behind (times (n .value) one (drop (n .at) bytes)))
-    unfolding literalsAt
-    at-literals = ap asLiterals (goes-on (λ l. times l one >>= λ ls. ended >> return ls) bytes _ (n .refused) (n .at) (n .value) counted countRead)
+    at-lines : linesAt bytes at limit counts rows us ≡ asLines bytes (times (n .value) one (drop (n .at) bytes))
+    unfolding linesAt
+    at-lines = ap (asLines bytes) (goes-on (λ l. times l one) bytes _ (n .refused) (n .at) (n .value) counted countRead)
 
-    pub literals-stop : (q : ℕ) → times (n .value) one (drop (n .at) bytes) ≡ refused q → noLiterals q ≡ literalsAt bytes at limit counts rows us
-    unfolding asLiterals
-    literals-stop q e = sym (at-literals ∙ ap (λ (r : Parsed (List Literal)). asLiterals (behind r)) e)
+    pub lines-stop : (q : ℕ) → times (n .value) one (drop (n .at) bytes) ≡ refused q → noLines q ≡ linesAt bytes at limit counts rows us
+    unfolding asLines
+    lines-stop q e = sym (at-lines ∙ ap (asLines bytes) e)
 
-    module _ (ls : List Literal) (end : ℕ) (all : times (n .value) one (drop (n .at) bytes) ≡ accepted ls (drop end bytes)) where
-      at-end : literalsAt bytes at limit counts rows us ≡ asLiterals ((ended >> return ls) (drop end bytes))
-      at-end = at-literals ∙ ap (λ (r : Parsed (List Literal)). asLiterals (behind r)) all
-
-      pub not-ended : end < length bytes → noLiterals 10 ≡ literalsAt bytes at limit counts rows us
-      unfolding asLiterals
-      not-ended h = sym (at-end ∙ go (drop end bytes) (omega (arith, length-drop end bytes)))
-        where
-          go : (rest : List ℕ) → 0 < length rest → asLiterals ((ended >> return ls) rest) ≡ noLiterals 10
-          go [] h = absurd (omega arith)
-          go (x ∷ xs) h = refl
-
-      pub at-the-end : length bytes ≤ end → record { refused = 0; literals = literalTable ls } ≡ literalsAt bytes at limit counts rows us
-      unfolding asLiterals
-      at-the-end h = sym (at-end ∙ go (drop end bytes) (omega (arith, length-drop end bytes)))
-        where
-          go : (rest : List ℕ) → length rest ≡ 0 → asLiterals ((ended >> return ls) rest) ≡ record { refused = 0; literals = literalTable ls }
-          go [] h = refl
-          go (x ∷ xs) h = absurd (omega arith)
+    pub lines-read : (ls : List Literal) (end : ℕ) → end ≤ length bytes → times (n .value) one (drop (n .at) bytes) ≡ accepted ls (drop end bytes)
+        → record { refused = 0; at = end; literals = literalTable ls } ≡ linesAt bytes at limit counts rows us
+    unfolding asLines
+    lines-read ls end within e =
+        let there : end ≡ length bytes - length (drop end bytes) = omega (arith, length-drop end bytes, within) in
+        ap (λ (k : ℕ). record { refused = 0; at = k; literals = literalTable ls }) there ∙ sym (at-lines ∙ ap (asLines bytes) e)

@@ -8,27 +8,21 @@ use Rattle.guard.specs.File.{file, literal}
 use Rattle.guard.specs.Guard.{Guard}
 use Rattle.guard.specs.Limits.{Limits}
 use Rattle.guard.specs.Number.{Parsed, Parsed.accepted, Parsed.refused, andThen}
-use Rattle.guard.specs.Types.{allDefaults, infiniteFields}
-use Rattle.numbers.proofs.Tidy.{Any, Tidy, tidy-asked, tidy-bind, tidy-return, tidy-same}
-use Rattle.typereader.specs.TypeReader.{typesPart}
-use Rattle.typereader.proofs.TidyTypes.{tidy-part}
-use Rattle.rowreader.specs.RowReader.{countedRows}
-use Rattle.rowreader.proofs.TidyRows.{tidy-counted}
+use Rattle.numbers.proofs.Tidy.{Any, Tidy, tidy-bind, tidy-return, tidy-same}
+use Rattle.headreader.specs.Head.{headPart}
+use Rattle.headreader.proofs.HeadLaws.{tidy-head}
 use Rattle.literalreader.specs.LiteralReader.{literalsBy}
 use Rattle.literalreader.proofs.TidyLiterals.{tidy-literals}
 use Rattle.reader.specs.Reader.{asTables, guardTables, noTables, tablesAt}
 use Rattle.reader.specs.declared.Tables.{Tables}
-use Rattle.reader.proofs.FileParts.{afterRows, afterTypes, file-parts}
+use Rattle.reader.proofs.FileParts.{afterHead, file-parts}
 
 tidy-file : (limits : Limits) → Tidy (file limits) Any
 tidy-file limits =
-    tidy-same (λ bs. andThen (afterTypes limits) (typesPart (limits .types) bs)) (file limits) Any (λ bs. sym (file-parts limits bs))
-    (tidy-bind (typesPart (limits .types)) (afterTypes limits) _ Any (tidy-part (limits .types))
-    (λ ts h. tidy-asked 8 (allDefaults ts) _ Any (omega arith)
-    (λ e. tidy-asked 9 (infiniteFields ts) _ Any (omega arith)
-    (λ e. tidy-bind (countedRows (limits .terms) ts) (afterRows limits ts) Any Any (tidy-counted (limits .terms) ts)
-    (λ rs k. tidy-bind (literalsBy (limits .lines) (literal ts rs)) _ Any Any (tidy-literals (limits .lines) ts rs)
-    (λ ls l. tidy-return (record { types = ts; rows = rs; literals = ls }) Any tt))))))
+    tidy-same (λ bs. andThen (afterHead limits) (headPart (limits .types) (limits .terms) bs)) (file limits) Any (λ bs. sym (file-parts limits bs))
+    (tidy-bind (headPart (limits .types) (limits .terms)) (afterHead limits) _ Any (tidy-head (limits .types) (limits .terms))
+    (λ h k. tidy-bind (literalsBy (limits .lines) (literal (h .types) (h .rows))) _ Any Any (tidy-literals (limits .lines) (h .types) (h .rows))
+    (λ ls l. tidy-return (record { types = h .types; rows = h .rows; literals = ls }) Any tt)))
 
 -- no question has number 0
 pub file-question : (limits : Limits) (bytes : List ℕ) (q : ℕ) → file limits bytes ≡ refused q → ¬ (q ≡ 0)

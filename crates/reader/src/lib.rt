@@ -70,25 +70,17 @@ pub fn no_tables(question: u32) -> Tables
 pub fn read(bytes: &[u8], types: u32, terms: u32, lines: u32) -> Tables
     ensures { λ r. ⌜ r ≡ tablesAt (limitsOf types terms lines) (now (bytes .entry)) ⌝ }
 {
-    let t = typereader::read_types(bytes, at_most(types, 6));
-    if t.refused != 0 {
-        return no_tables(t.refused);
+    let h = headreader::read_head(bytes, at_most(types, 6), at_most(terms, 24));
+    if h.refused != 0 {
+        return no_tables(h.refused);
     }
-    let table = t.table;
-    let f = datatypes::type_facts(table);
-    if f.refused != 0 {
-        return no_tables(f.refused);
-    }
-    let n = rowreader::read_rows(bytes, t.at, at_most(terms, 24), table);
-    if n.refused != 0 {
-        return no_tables(n.refused);
-    }
-    let rows = n.rows;
+    let table = h.types;
+    let rows = h.rows;
     let counts = table.variants;
     let sorts = rows.types;
     let l = literalreader::read_literals(
         bytes,
-        n.at,
+        h.at,
         at_most(lines, 64),
         &counts,
         rows.many,
@@ -97,7 +89,7 @@ pub fn read(bytes: &[u8], types: u32, terms: u32, lines: u32) -> Tables
     if l.refused != 0 {
         return no_tables(l.refused);
     }
-    let defaults = f.defaults;
+    let defaults = h.defaults;
     let literals = l.literals;
     let siblings = siblings::sibling_fields(table, rows);
     Tables {

@@ -29,6 +29,11 @@ fits-flat : (many : ℕ) (ts : Types) → All (λ vs. (length vs ≤ variantLimi
 fits-flat many [] none = none
 fits-flat many (vs ∷ ts) (more a bs) = all-append (a .1) (fits-flat many ts bs)
 
+pub types-range : {limit many : ℕ} {ts : Types} → limit ≤ 6 → many ≤ limit → TypesFit many many 0 ts → TypesInRange (typeTable ts)
+types-range {limit} {many} {ts} few h f =
+    let g : TypesFit (length ts) (length ts) 0 ts = subst (λ (k : ℕ). TypesFit k k 0 ts) (sym (f .0)) f in
+    table-in-range ts (omega (arith, f .0, h)) (fits-at (length ts) ts (g .2)) (omega (arith, g .1)) (fits-flat (length ts) ts (g .2))
+
 -- ---- the answer
 
 pub record TypesFound (bytes : List ℕ) (limit : ℕ) (r : TypesRead) : Type 0 where
@@ -69,6 +74,6 @@ module _ (bytes : List ℕ) (limit : ℕ) (r : TypesRead) (is : r ≡ typesAt by
         table = e;
         few = omega (arith, f .0, h);
         fit = g;
-        range = subst TypesInRange (sym e) (table-in-range ts (omega (arith, f .0, h)) (fits-at (length ts) ts (g .2)) (omega (arith, g .1)) fields);
+        range = subst TypesInRange (sym e) (types-range small h f);
         back = ap typesOf e ∙ types-back ts (all-weaken (λ fs p. p .0) fields);
       }

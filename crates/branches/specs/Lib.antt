@@ -1,0 +1,3 @@
+pub mod Procedure
+pub mod Verdicts
+pub mod BranchCases

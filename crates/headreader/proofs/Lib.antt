@@ -1,0 +1,3 @@
+pub mod WithHead
+pub mod HeadLaws
+pub mod HeadFits

@@ -1,0 +1,13 @@
+-- `no_lines` meets its contract. Assumes nothing.
+use Rattle.literalreader.specs.LiteralReader.{noLines}
+use Rattle.tables.specs.Layout.{literalTable}
+use mathlib.Core.Path.{refl}
+use Rattle.literalreader.proofs.no_lines.Statement.{statement}
+use Rattle.literalreader.proofs.no_lines.Tie as tie
+
+returns : tie.Need-returns
+unfolding noLines literalTable
+returns c = refl
+
+pub no-lines-spec : {M : Type 1} → statement M
+no-lines-spec = tie.close (tie.spec returns)
