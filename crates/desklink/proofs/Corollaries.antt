@@ -16,7 +16,8 @@ use Rattle.guard.specs.Search.{Counts, nodeCount}
 use Rattle.guard.specs.Shown.{Shows}
 use Rattle.guard.specs.declared.Answer.{Answer}
 use Rattle.guard.specs.declared.Answer.the-variants.{Refused, Sat, Unsat, Spent}
-use Rattle.decide.proofs.Corollaries.{spent-below-count, unsat-twice}
+use Rattle.guard.proofs.Claims.{base-supported}
+use Rattle.decidewithin.proofs.Corollaries.{spent-below-count, unsat-twice}
 use Rattle.answernumbers.specs.Numbers.{answerNumbers}
 use Rattle.desklink.specs.Links.{Answers}
 
@@ -60,11 +61,11 @@ module _ (bytes : List ℕ) (budget : ℕ) (rows places : List ℤ) (numbers : L
   told-unsat e = let told = first-unsat (a .answer) (drop 5 numbers) (sym (number 0) ∙ e) in a .decided .dead g rest taken (told .0) (told .1)
 
   pub told-spent : getD numbers′ 0 0 ≡ 3 → budget < nodeCount g
-  told-spent e = spent-below-count bytes budget rows places (a .answer) rows′ places′ (a .decided) g rest taken .0 (first-spent (a .answer) (drop 5 numbers) (sym (number 0) ∙ e))
+  told-spent e = spent-below-count base base-supported bytes budget rows places (a .answer) rows′ places′ (a .decided) g rest taken .0 (first-spent (a .answer) (drop 5 numbers) (sym (number 0) ∙ e))
 
   -- document 02, #105: "For UNSAT, nodes are twice the two counts together and one more."
   pub told-twice : getD numbers′ 0 0 ≡ 2 → getD numbers′ 1 0 ≡ 2 * (getD numbers′ 3 0 + getD numbers′ 4 0) + 1
   told-twice e =
       let told = first-unsat (a .answer) (drop 5 numbers) (sym (number 0) ∙ e) in
-      let twice = unsat-twice bytes budget rows places (a .answer) rows′ places′ (a .decided) g rest taken (told .0) (told .1) in
+      let twice = unsat-twice base base-supported bytes budget rows places (a .answer) rows′ places′ (a .decided) g rest taken (told .0) (told .1) in
       omega (arith, number 1, number 3, number 4, told .2, told .3, told .4, twice)

@@ -7,7 +7,7 @@ use lib.IntN.{ℤ}
 use lib.ListN.{length, drop}
 use Rattle.guard.specs.Limits.{base}
 use Rattle.guard.specs.declared.Answer.{Answer}
-use Rattle.decide.specs.Decides.{Decides}
+use Rattle.decidewithin.specs.Decides.{Decides}
 use Rattle.explain.specs.Explains.{Explains}
 use Rattle.explain.specs.declared.Explained.{Explained}
 use Rattle.answernumbers.specs.Numbers.{answerNumbers}
