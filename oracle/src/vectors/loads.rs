@@ -203,6 +203,13 @@ fn profiles() -> Vec<Profile> {
     ]
 }
 
+/// A random guard within the limits.
+pub fn small(random: &mut Random) -> Vec<u8> {
+    let profiles = profiles();
+    let profile = &profiles[random.below(profiles.len())];
+    draft(random, profile).bytes()
+}
+
 /// Random guards within the limits, with budgets around their node counts.
 fn random(set: &mut Set) {
     for profile in profiles() {
