@@ -6,21 +6,6 @@ use Rattle.desklink.proofs.Linked.{answered, too-short}
 use Rattle.desklink.proofs.guarddesk_load.Statement.{statement}
 use Rattle.desklink.proofs.guarddesk_load.Tie as tie
 
-load-requires : tie.Need-load-requires
-load-requires c κs = search needs
-
-put-answer-requires : tie.Need-put-answer-requires
-put-answer-requires c κs = search needs
-
-same-length : tie.Need-same-length
-same-length c = search needs
-
-same-length-2 : tie.Need-same-length-2
-same-length-2 c = search needs
-
-same-length-3 : tie.Need-same-length-3
-same-length-3 c = search needs
-
 returns : tie.Need-returns
 returns c =
     let start = c .before .before .before .before .before .before .before .before .before .before .before .before in
@@ -36,11 +21,4 @@ returns-2 c =
 pub guarddesk-load-spec : {M : Type 1} → statement M
 guarddesk-load-spec =
     tie.close
-    (tie.spec
-    load-requires
-    put-answer-requires
-    same-length
-    same-length-2
-    same-length-3
-    returns
-    returns-2)
+    (tie.spec (λ c κs. search needs) (λ c κs. search needs) (λ c. search needs) (λ c. search needs) (λ c. search needs) returns returns-2)
