@@ -1,17 +1,18 @@
 /*
  * The guard desk: whether a guard over message fields can hold at all and, where it can, messages that make it hold; where it
  * cannot, a record of every branch that was tried, and a check of such records. And a writer of guard files, for programs that
- * make guards, and a merge of two guards that have to hold at once.
+ * make guards, and a merge of two guards that have to hold at once. guarddesk_load is the desk's call for less memory.
  *
- * Five functions, in libdesklink.a (x86-64 Linux). What they give is proved for every file, budget, record, list and buffer length;
+ * Six functions, in libdesklink.a (x86-64 Linux). What they give is proved for every file, budget, record, list and buffer length;
  * docs/EMBEDDING.md says what rests on what.
  *
  *   - They allocate nothing, keep nothing between calls and call nothing but memcpy and memset. Calls in several
  *     threads at once are fine, each with its own buffers.
- *   - They always end. The budget bounds the time of guarddesk_decide: no more nodes than that are searched. At the limits of a
+ *   - They always end. The budget bounds the time of guarddesk_decide and guarddesk_load: no more nodes than that are searched. At the limits of a
  *     guard a node was measured at 1 to 1.8 microseconds (docs/BENCHMARKS.md). guarddesk_explain visits the nodes of a closed search
  *     once more, guarddesk_check at most those of the record. guarddesk_write and guarddesk_merge search nothing.
- *   - Each needs 820 KB of stack or less, guarddesk_write and guarddesk_merge 13 KB (docs/EMBEDDING.md counts the bytes).
+ *   - Each needs 820 KB of stack or less, guarddesk_load 260 KB, guarddesk_write and guarddesk_merge 13 KB (docs/EMBEDDING.md counts
+ *     the bytes).
  */
 #ifndef GUARDDESK_H
 #define GUARDDESK_H
@@ -28,7 +29,11 @@ extern "C" {
 #define GUARDDESK_PLACES_LENGTH 24
 #define GUARDDESK_ANSWER_LENGTH 5
 
-/* What guarddesk_decide returns. */
+/* The same for guarddesk_load. */
+#define GUARDDESK_LOADER_ROWS_LENGTH 4096
+#define GUARDDESK_LOADER_PLACES_LENGTH 8
+
+/* What guarddesk_decide and guarddesk_load return. */
 #define GUARDDESK_ANSWERED 0
 #define GUARDDESK_ANSWER_TOO_SHORT 1
 
@@ -95,6 +100,19 @@ uint32_t guarddesk_decide(const uint8_t *file, size_t file_length, uint32_t budg
                           int32_t *rows, size_t rows_length,
                           int32_t *places, size_t places_length,
                           uint32_t *answer, size_t answer_length);
+
+/*
+ * Decides as guarddesk_decide, for a caller with less memory: a file of at most 3 types, 8 terms and 8 lines, with a row buffer of
+ * 4,096 numbers and a place buffer of 8. What it returns and writes is as described there, but for two questions:
+ *    1  the row buffer has fewer than 4,096 numbers, or the place buffer fewer than 8
+ *    4  a count is outside its limits, 3 types, 8 terms and 8 lines among them
+ * A file within these limits gets the same verdict, node count and splits, or the same refusal, from both calls, with the same budget and
+ * buffers long enough for each. Which messages are shown is left open by both.
+ */
+uint32_t guarddesk_load(const uint8_t *file, size_t file_length, uint32_t budget,
+                        int32_t *rows, size_t rows_length,
+                        int32_t *places, size_t places_length,
+                        uint32_t *answer, size_t answer_length);
 
 /*
  * Decides as guarddesk_decide, and after UNSAT writes the record of the search, which shows why: all its branches, each

@@ -39,7 +39,13 @@ pub fn line_one(answer: &str) -> &str {
 
 /// The answer to a file with buffers of the least lengths.
 pub fn answer(file: &[u8], budget: u32, limits: Limits) -> Answer {
-    answer_with_buffers(file, budget, limits, read::ROW_BUFFER, read::PLACE_BUFFER)
+    answer_with_buffers(
+        file,
+        budget,
+        limits,
+        limits.row_buffer(),
+        limits.place_buffer(),
+    )
 }
 
 /// The answer to a file with buffers of the given lengths.
@@ -50,8 +56,8 @@ pub fn answer_with_buffers(
     row_buffer: usize,
     place_buffer: usize,
 ) -> Answer {
-    let guard =
-        read::buffers_long_enough(row_buffer, place_buffer).and_then(|()| read::read(file, limits));
+    let guard = read::buffers_long_enough(limits, row_buffer, place_buffer)
+        .and_then(|()| read::read(file, limits));
     match guard {
         Ok(guard) => answer_to(&guard, budget),
         Err(question) => Answer::Refused(question),

@@ -2,12 +2,13 @@
 
 use crate::types::{DefaultOf, Type};
 
-/// The counts that a guard file may use.
+/// The counts that a guard file may use, and the rows that always suffice.
 #[derive(Clone, Copy, Debug, PartialEq, Eq)]
 pub struct Limits {
     pub types: usize,
     pub terms: usize,
     pub lines: usize,
+    pub rows: usize,
 }
 
 impl Limits {
@@ -16,7 +17,29 @@ impl Limits {
         types: 6,
         terms: 24,
         lines: 32,
+        rows: 4_096,
     };
+
+    /// Request #110: "at most 3 types, 8 terms and 8 lines"; "for these 1,024
+    /// rows always suffice".
+    pub const LOADER: Limits = Limits {
+        types: 3,
+        terms: 8,
+        lines: 8,
+        rows: 1_024,
+    };
+
+    /// "The row buffer (at least 16,384 numbers)"; request #110: "a row buffer
+    /// of at least 4,096 numbers".
+    pub const fn row_buffer(&self) -> usize {
+        4 * self.rows
+    }
+
+    /// "The place buffer (at least 24)"; request #110: "a place buffer of at
+    /// least 8".
+    pub const fn place_buffer(&self) -> usize {
+        self.terms
+    }
 }
 
 /// "Then for each type V (0 to 16)."

@@ -10,11 +10,12 @@ use oracle::answer::{answer, answer_to};
 use oracle::guard::{Guard, Limits};
 use oracle::merge::{self, Refusal};
 use oracle::read::Question;
-use oracle::vectors::{self, lists, merges, records, Vector, USUAL_BUDGET};
+use oracle::vectors::{self, lists, loads, merges, records, Vector, USUAL_BUDGET};
 use oracle::{list, read, record, smt, tables, text};
 
 const USAGE: &str = "\
 usage: oracle answer FILE [--budget N]        the answer to a guard file
+       oracle load FILE [--budget N]          the flight loader's answer to it
        oracle check FILE OUTPUT [--budget N]  checks what guarddesk printed
        oracle smt FILE                        the guard in SMT-LIB 2
        oracle record FILE [--budget N]        the record of an UNSAT guard, in hexadecimal
@@ -30,6 +31,8 @@ usage: oracle answer FILE [--budget N]        the answer to a guard file
                                               guards of DIR/vectors.txt
        oracle merges [--check] DIR            writes or checks DIR/merges.txt, with
                                               guards of DIR/vectors.txt
+       oracle loads [--check] DIR             writes or checks DIR/loads.txt, with
+                                              files of DIR/vectors.txt
        oracle pack VECTORS OUT                packs vectors into one binary file
        oracle tables [--check] VECTORS DIR    writes or checks DIR/stdin, the packed
                                               vectors, and DIR/stdout, the desk's tables
@@ -72,6 +75,8 @@ fn run(words: &[&str]) -> Result<(), Failure> {
     match *words {
         ["answer", file] => answer_command(file, USUAL_BUDGET),
         ["answer", file, "--budget", n] => answer_command(file, budget(n)?),
+        ["load", file] => load_command(file, USUAL_BUDGET),
+        ["load", file, "--budget", n] => load_command(file, budget(n)?),
         ["check", file, output] => check_command(file, output, USUAL_BUDGET),
         ["check", file, output, "--budget", n] => check_command(file, output, budget(n)?),
         ["smt", file] => smt_command(file),
@@ -89,6 +94,8 @@ fn run(words: &[&str]) -> Result<(), Failure> {
         ["lists", dir] => write_kept(&LISTS, dir),
         ["merges", "--check", dir] => check_kept(&MERGES, dir),
         ["merges", dir] => write_kept(&MERGES, dir),
+        ["loads", "--check", dir] => check_kept(&LOADS, dir),
+        ["loads", dir] => write_kept(&LOADS, dir),
         ["pack", vectors, out] => pack_command(vectors, out),
         ["tables", "--check", vectors, dir] => check_run(vectors, dir, tables::summaries),
         ["tables", vectors, dir] => write_run(vectors, dir, tables::summaries),
@@ -142,6 +149,11 @@ fn print(text: &str) -> Result<(), Failure> {
 
 fn answer_command(file: &str, budget: u32) -> Result<(), Failure> {
     let answer = answer(&load(file)?, budget, Limits::BASE);
+    print(&format!("{answer}\n"))
+}
+
+fn load_command(file: &str, budget: u32) -> Result<(), Failure> {
+    let answer = answer(&load(file)?, budget, Limits::LOADER);
     print(&format!("{answer}\n"))
 }
 
@@ -265,6 +277,15 @@ const MERGES: Kept = Kept {
     make: |dir| {
         let all = merges::all(&vectors_of(dir)?).map_err(Failure::Wrong)?;
         Ok((merges::text(&all), all.len()))
+    },
+};
+
+const LOADS: Kept = Kept {
+    name: "loads.txt",
+    what: "calls of the loader",
+    make: |dir| {
+        let all = loads::all(&vectors_of(dir)?);
+        Ok((loads::text(&all), all.len()))
     },
 };
 

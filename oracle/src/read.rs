@@ -51,14 +51,15 @@ impl Question {
     }
 }
 
-/// "The row buffer (at least 16,384 numbers)."
-pub const ROW_BUFFER: usize = 16_384;
-/// "The place buffer (at least 24)."
-pub const PLACE_BUFFER: usize = 24;
-
-/// Question 1: "are both buffers long enough?"
-pub fn buffers_long_enough(row_buffer: usize, place_buffer: usize) -> Result<(), Question> {
-    Question::BuffersLongEnough.ask(row_buffer >= ROW_BUFFER && place_buffer >= PLACE_BUFFER)
+/// Question 1: "are both buffers long enough?" Request #110: "questions 1 and 4
+/// read each caller's limits".
+pub fn buffers_long_enough(
+    limits: Limits,
+    row_buffer: usize,
+    place_buffer: usize,
+) -> Result<(), Question> {
+    Question::BuffersLongEnough
+        .ask(row_buffer >= limits.row_buffer() && place_buffer >= limits.place_buffer())
 }
 
 /// Where the numbers of a guard come from, in file order. A number that isn't

@@ -6,9 +6,6 @@ use crate::number;
 use crate::read;
 use crate::types::DefaultOf;
 
-/// "Within these limits 4,096 rows always suffice."
-pub const MOST_ROWS: usize = 4_096;
-
 /// What is wrong, in words.
 pub type Fault = String;
 
@@ -104,8 +101,10 @@ pub fn check_shown(
 
 /// The messages in the row buffer, once its layout is right.
 fn messages(guard: &Guard, row_count: usize, rows: &[i32]) -> Result<Vec<Message>, Fault> {
-    ensure(row_count <= MOST_ROWS, || {
-        format!("{row_count} rows are more than {MOST_ROWS}")
+    // "Within these limits 4,096 rows always suffice"; request #110: 1,024.
+    let most = guard.limits.rows;
+    ensure(row_count <= most, || {
+        format!("{row_count} rows are more than {most}")
     })?;
     ensure(4 * row_count <= rows.len(), || {
         format!("{row_count} rows don't fit in the buffer")

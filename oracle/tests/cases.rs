@@ -211,6 +211,7 @@ fn limits_are_a_parameter() {
         types: 1,
         terms: 2,
         lines: 1,
+        ..Limits::LOADER
     };
     let given = |text: &str| answer(&file(text), 100, small).to_string();
     assert_eq!(given("02 00 00 00 00"), "REFUSED 4");

@@ -25,7 +25,7 @@ use Rattle.growthtables.specs.declared.Growth.{Growth}
 use Rattle.columns.proofs.Filled.{filled-at}
 use Rattle.forms.specs.declared.Forms.{Forms}
 use Rattle.forms.specs.Forms.{FormsFit, typesIn}
-use Rattle.drawnrows.specs.Drawing.{Drew, NumberDrawn, Room, Store, Under}
+use Rattle.drawnrows.specs.Drawing.{Drew, NumberDrawn, Room, Store, Under, growthRows}
 use Rattle.drawnrows.proofs.DrawnLaws.{drew-after, drew-nothing, drew-room, drew-under, under-trans}
 use Rattle.forms.proofs.FormLaws.{period-read}
 use Rattle.growthrows.proofs.StepLaws.{Grew, grew-type}
@@ -39,7 +39,11 @@ pub drew-more : {ts : Types} {rows : List ℤ} {many : ℕ} {drawn : List ℕ} {
 drew-more k l h d = record { store = d .store; grown = d .grown; cost = omega (arith, d .cost); there = d .there; message = d .message; under = d .under }
 
 pub room-less : (rows : List ℤ) (many : ℕ) (drawn : List ℕ) (k l : ℕ) → l ≤ k → Room rows many drawn k → Room rows many drawn l
-room-less rows many drawn k l h room = record { few = omega (arith, room .few); long = room .long }
+room-less rows many drawn k l h room = record { few = omega (arith, room .few); long = omega (arith, room .long) }
+
+-- where there is room for a row, it may be drawn
+pub room-place : (rows : List ℤ) (many : ℕ) (drawn : List ℕ) (k : ℕ) → 0 < k → Room rows many drawn k → (many < 4096) × (4 * many + 4 ≤ length rows)
+room-place rows many drawn k h room = (omega (arith, room .few), omega (arith, room .long))
 
 -- ---- entries of the forms
 
@@ -123,18 +127,21 @@ module _ (forms : Forms) (fit : FormsFit forms) where
           subst (λ (k : ℕ). GrowsBy ts k s) (sym isN)
           (growth-before ts (fit .accepted) (stepsToNumber ts s) s start-infinite (λ j l. least-first (λ k. isNumber ts (iterate (nextType ts) k s)) (length ts) j l))
 
-      module _ (u : ℕ) (isU : u ≡ iterate (nextType ts) n s) (rows : List ℤ) (many : ℕ) (drawn : List ℕ) (store : Store ts rows many drawn) (room : Room rows many drawn 50) (z : ℤ)
+      module _ (u : ℕ) (isU : u ≡ iterate (nextType ts) n s) (rows : List ℤ) (many : ℕ) (drawn : List ℕ) (store : Store ts rows many drawn) (room : Room rows many drawn (3 * length ts - 1)) (z : ℤ)
           (rows′ : List ℤ) (many′ at : ℕ) (number-drawn : NumberDrawn rows many u z rows′ many′ at) where
         end-drew : Drew ts rows many drawn 1 (number u z) rows′ many′ drawn at
         end-drew =
             number-drawn ts drawn (subst (λ (k : ℕ). k < length ts) (sym isU) (iterate-less (nextType ts) (length ts) (next-less ts (fit .accepted)) n s start-less))
             (ap (isNumber ts) isU ∙ subst numberAt (sym isN) (least-passes (λ k. isNumber ts (iterate (nextType ts) k s)) (length ts) ends)) store
 
+        end-cost : 1 + (n + 1) ≤ 3 * length ts - 1
+        end-cost = omega (arith, ends, isN)
+
         pub end-store : Store ts rows′ many′ drawn
         end-store = end-drew .store
 
         pub end-room : Room rows′ many′ drawn (n + 1)
-        end-room = drew-room end-drew (n + 1) (room-less rows many drawn 50 (1 + (n + 1)) (omega (arith, types-few)) room)
+        end-room = drew-room end-drew (n + 1) (room-less rows many drawn (3 * length ts - 1) (1 + (n + 1)) end-cost room)
 
         pub end-there : at < many′
         end-there = end-drew .there
@@ -143,9 +150,9 @@ module _ (forms : Forms) (fit : FormsFit forms) where
         end-type = ap messageType (end-drew .message) ∙ isU
 
         pub ended-drew : (rows″ : List ℤ) (many″ : ℕ) (drawn″ : List ℕ) (r : ℕ) → Drew ts rows′ many′ drawn (n + 1) (wrapIn ts t v (growFrom ts n s (messageAt ts rows′ many′ at))) rows″ many″ drawn″ r → Under ts rows″ r at
-            → Drew ts rows many drawn 50 (plannedMessage ts t (into v (stepsToNumber ts (chosenType ts t v)) z)) rows″ many″ drawn″ r
+            → Drew ts rows many drawn (3 * length ts - 1) (plannedMessage ts t (into v (stepsToNumber ts (chosenType ts t v)) z)) rows″ many″ drawn″ r
         ended-drew rows″ many″ drawn″ r d under =
-            drew-more (1 + (n + 1)) 50 (omega (arith, types-few))
+            drew-more (1 + (n + 1)) (3 * length ts - 1) end-cost
             (subst (λ (m : Message). Drew ts rows many drawn (1 + (n + 1)) m rows″ many″ drawn″ r) whole (drew-after end-drew d under))
           where
             whole : wrapIn ts t v (growFrom ts n s (messageAt ts rows′ many′ at)) ≡ plannedMessage ts t (into v (stepsToNumber ts (chosenType ts t v)) z)
@@ -241,24 +248,24 @@ module _ (forms : Forms) (fit : FormsFit forms) where
     pub distance-grows : GrowsBy ts n s
     distance-grows = cyclic-growth ts (fit .accepted) n s start-cyclic
 
-    module _ (most : ℕ) (low : most ≤ 31) (rows : List ℤ) (many : ℕ) (drawn tops : List ℕ) (room : Room rows many drawn 50) (typed : TopsTyped ts rows many tops) where
-      whole-cost : lap ts most r + (n + 1) ≤ 50
-      whole-cost = omega (arith, types-few, lap-most ts most r (omega (arith, less)), distance-less (nextType ts) (length ts) (next-less ts (fit .accepted)) s less)
+    module _ (most : ℕ) (rows : List ℤ) (many : ℕ) (drawn tops : List ℕ) (room : Room rows many drawn (growthRows ts most)) (typed : TopsTyped ts rows many tops) where
+      whole-cost : lap ts most r + (n + 1) ≤ growthRows ts most
+      whole-cost = omega (arith, lap-most ts most r (omega (arith, less)), distance-less (nextType ts) (length ts) (next-less ts (fit .accepted)) s less)
 
       pub circle-room : Room rows many drawn (lap ts most r)
-      circle-room = room-less rows many drawn 50 (lap ts most r) (omega (arith, whole-cost)) room
+      circle-room = room-less rows many drawn (growthRows ts most) (lap ts most r) (omega (arith, whole-cost)) room
 
       module _ (rows′ : List ℤ) (many′ : ℕ) (drawn′ : List ℕ) (at : ℕ) (e : Drew ts rows many drawn (lap ts most r) (lapMessage ts most rows many tops r) rows′ many′ drawn′ at) where
         pub circled-room : Room rows′ many′ drawn′ (n + 1)
-        circled-room = drew-room e (n + 1) (room-less rows many drawn 50 (lap ts most r + (n + 1)) whole-cost room)
+        circled-room = drew-room e (n + 1) (room-less rows many drawn (growthRows ts most) (lap ts most r + (n + 1)) whole-cost room)
 
         pub circled-type : messageType (messageAt ts rows′ many′ at) ≡ iterate (nextType ts) n s
         circled-type = ap messageType (e .message) ∙ grown-type (lap ts most r) r (topMessage ts rows many tops r) (top-type rows many tops typed r root-inside) ∙ sym down-to-root
 
         module _ (rows″ : List ℤ) (many″ : ℕ) (drawn″ : List ℕ) (q : ℕ) (d : Drew ts rows′ many′ drawn′ (n + 1) (wrapIn ts t v (growFrom ts n s (messageAt ts rows′ many′ at))) rows″ many″ drawn″ q) (u : Under ts rows″ q at) where
-          pub circled-drew : Drew ts rows many drawn 50 (wrapIn ts t v (growFrom ts (distanceOf ts s) s (lapMessage ts most rows many tops (rootOf ts s)))) rows″ many″ drawn″ q
+          pub circled-drew : Drew ts rows many drawn (growthRows ts most) (wrapIn ts t v (growFrom ts (distanceOf ts s) s (lapMessage ts most rows many tops (rootOf ts s)))) rows″ many″ drawn″ q
           circled-drew =
-              drew-more (lap ts most r + (n + 1)) 50 whole-cost
+              drew-more (lap ts most r + (n + 1)) (growthRows ts most) whole-cost
               (subst (λ (m : Message). Drew ts rows many drawn (lap ts most r + (n + 1)) m rows″ many″ drawn″ q)
               (ap (λ (m : Message). wrapIn ts t v (growFrom ts n s m)) (e .message)
               ∙ ap (λ (k : ℕ). wrapIn ts t v (growFrom ts k s (lapMessage ts most rows many tops r))) isN

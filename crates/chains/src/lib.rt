@@ -3,7 +3,7 @@
 use drawnrows::Drawn;
 use forms::Forms;
 ghost use mathlib.Core.Path.{_≡_};
-ghost use Prim.Native.Nat.{suc, _+_, _*_, _≤_, _<_};
+ghost use Prim.Native.Nat.{suc, _+_, _*_, _-_, _≤_, _<_};
 ghost use lib.ListN.{length, set};
 ghost use Rattle.guard.specs.Shown.{messageType};
 ghost use Rattle.guard.specs.Types.{fieldsOf, variantsOf};
@@ -13,7 +13,7 @@ ghost use Rattle.growth.proofs.Growth.{Cyclic, GrowsBy, chosenType, distanceOf,
 ghost use Rattle.growth.proofs.Orbit.{iterate};
 ghost use Rattle.growth.proofs.Plans.{Plan.into, plannedMessage};
 ghost use Rattle.forms.specs.Forms.{FormsFit, typesIn};
-ghost use Rattle.drawnrows.specs.Drawing.{Drew, Room, Store, Under};
+ghost use Rattle.drawnrows.specs.Drawing.{Drew, Room, Store, Under, growthRows};
 ghost use Rattle.chains.specs.Chains.{LapNoted, Starts, TopsTyped, lapMessage, topMessage};
 
 // The type of the field in which variant `v` of type `t` grows.
@@ -67,10 +67,10 @@ pub fn ended_row(
 ) -> Drawn
     requires { ⌜ FormsFit forms ⌝ }
     requires { ⌜ Store (typesIn forms) (now rows) many (now drawn) ⌝ }
-    requires { ⌜ Room (now rows) many (now drawn) 50 ⌝ }
+    requires { ⌜ Room (now rows) many (now drawn) (3 * length (typesIn forms) - 1) ⌝ }
     requires { ⌜ Starts (typesIn forms) t v s ⌝ }
     requires { ⌜ stepsToNumber (typesIn forms) s < length (typesIn forms) ⌝ }
-    ensures { λ d. ⌜ Drew (typesIn forms) (now (rows .entry)) many (now (drawn .entry)) 50 (plannedMessage (typesIn forms) t (into v (stepsToNumber (typesIn forms) (chosenType (typesIn forms) t v)) z)) (now (rows .exit)) (d .many) (now (drawn .exit)) (d .row) ⌝ }
+    ensures { λ d. ⌜ Drew (typesIn forms) (now (rows .entry)) many (now (drawn .entry)) (3 * length (typesIn forms) - 1) (plannedMessage (typesIn forms) t (into v (stepsToNumber (typesIn forms) (chosenType (typesIn forms) t v)) z)) (now (rows .exit)) (d .many) (now (drawn .exit)) (d .row) ⌝ }
 {
     let growth = forms.growth;
     let n = growth.steps[s as usize];
@@ -158,12 +158,11 @@ pub fn circled_row(
 ) -> Drawn
     requires { ⌜ FormsFit forms ⌝ }
     requires { ⌜ Store (typesIn forms) (now rows) many (now drawn) ⌝ }
-    requires { ⌜ Room (now rows) many (now drawn) 50 ⌝ }
+    requires { ⌜ Room (now rows) many (now drawn) (growthRows (typesIn forms) most) ⌝ }
     requires { ⌜ TopsTyped (typesIn forms) (now rows) many (now tops) ⌝ }
-    requires { ⌜ most ≤ 31 ⌝ }
     requires { ⌜ Starts (typesIn forms) t v s ⌝ }
     requires { ⌜ length (typesIn forms) ≤ stepsToNumber (typesIn forms) s ⌝ }
-    ensures { λ d. ⌜ Drew (typesIn forms) (now (rows .entry)) many (now (drawn .entry)) 50 (wrapIn (typesIn forms) t v (growFrom (typesIn forms) (distanceOf (typesIn forms) s) s (lapMessage (typesIn forms) most (now (rows .entry)) many (now (tops .entry)) (rootOf (typesIn forms) s)))) (now (rows .exit)) (d .many) (now (drawn .exit)) (d .row) ⌝ }
+    ensures { λ d. ⌜ Drew (typesIn forms) (now (rows .entry)) many (now (drawn .entry)) (growthRows (typesIn forms) most) (wrapIn (typesIn forms) t v (growFrom (typesIn forms) (distanceOf (typesIn forms) s) s (lapMessage (typesIn forms) most (now (rows .entry)) many (now (tops .entry)) (rootOf (typesIn forms) s)))) (now (rows .exit)) (d .many) (now (drawn .exit)) (d .row) ⌝ }
     ensures { λ d. ⌜ LapNoted (typesIn forms) most (now (rows .entry)) many (now (tops .entry)) (rootOf (typesIn forms) s) (now (rows .exit)) (d .many) (now (tops .exit)) ⌝ }
 {
     let growth = forms.growth;

@@ -46,11 +46,11 @@ pub record PartsShow (ts : Types) (rows : List ℤ) (many t v : ℕ) (ps : List 
   pub typed : (q : ℕ) → q < length (fieldsOf ts t v) → messageType (f q) ≡ getD (fieldsOf ts t v) q 0
   pub unused : (q : ℕ) → length (fieldsOf ts t v) ≤ q → getD ps q 0 ≡ 0
 
-made-drew : (ts : Types) (rows : List ℤ) (many : ℕ) (drawn : List ℕ) → Store ts rows many drawn → many < 4096 → 16384 ≤ length rows → (t v : ℕ) (ps : List ℕ) (f : ℕ → Message) → PartsShow ts rows many t v ps f
+made-drew : (ts : Types) (rows : List ℤ) (many : ℕ) (drawn : List ℕ) → Store ts rows many drawn → 4 * many + 4 ≤ length rows → (t v : ℕ) (ps : List ℕ) (f : ℕ → Message) → PartsShow ts rows many t v ps f
     → (r : ℕ) (rows′ : List ℤ) (many′ : ℕ) → r ≡ rowFound rows 0 many (madeRow t v (map pos ps)) → rows′ ≡ withRow rows many r (madeRow t v (map pos ps)) → many′ ≡ manyAfter many r
     → Drew ts rows many drawn 1 (made t v (toParts (map f (from (length (fieldsOf ts t v)) 0)))) rows′ many′ drawn r
-made-drew ts rows many drawn store few long t v ps f parts r rows′ many′ =
-    drew-over ts t v (parts .small) (parts .fits) rows many drawn store ps (parts .three) f part-rows few long 0 (λ i l. absurd (omega arith)) r rows′ many′
+made-drew ts rows many drawn store long t v ps f parts r rows′ many′ =
+    drew-over ts t v (parts .small) (parts .fits) rows many drawn store ps (parts .three) f part-rows long 0 (λ i l. absurd (omega arith)) r rows′ many′
   where
     number-at : (q : ℕ) → getD (map pos ps) q (pos 0) ≡ pos (getD ps q 0)
     number-at q = List·getD-map pos ps q 0
@@ -105,13 +105,13 @@ module _ (shapes classes at : List ℕ) (k : ℕ) where
   pub parts-low : AtLow at → LowRows (partList shapes classes at k)
   parts-low low = (refl, all-low low)
 
-module _ (leaf : Leaf) (at : List ℕ) (k : ℕ) (fits : LeafFits leaf) (inside : k < 30) (rows : List ℤ) (many r : ℕ) (rows′ : List ℤ) (many′ : ℕ) (few : many < 4096) (long : 16384 ≤ length rows) (kind : ℕ) (isKind : kind ≡ kindAt (leaf .shapes) k - 1)
+module _ (leaf : Leaf) (at : List ℕ) (k : ℕ) (fits : LeafFits leaf) (inside : k < 30) (rows : List ℤ) (many r : ℕ) (rows′ : List ℤ) (many′ : ℕ) (long : 4 * many + 4 ≤ length rows) (kind : ℕ) (isKind : kind ≡ kindAt (leaf .shapes) k - 1)
     (found : r ≡ rowFound rows 0 many (madeRow (kind / 16) (kind % 16) (map pos (partList (leaf .shapes) (leaf .classes) at k)))) (with-it : rows′ ≡ withRow rows many r (madeRow (kind / 16) (kind % 16) (map pos (partList (leaf .shapes) (leaf .classes) at k))))
     (now : many′ ≡ manyAfter many r) where
   pub shape-drawn : ShapeDrawn leaf at rows many k rows′ many′ r
   shape-drawn ts val drawn c shape sheet lower =
       subst (λ (m : Message). Drew ts rows many drawn 1 m rows′ many′ drawn r) (sym value)
-      (made-drew ts rows many drawn (sheet .store) few long (shape .type) (shape .variant) (partList (leaf .shapes) (leaf .classes) at k) f parts r rows′ many′
+      (made-drew ts rows many drawn (sheet .store) long (shape .type) (shape .variant) (partList (leaf .shapes) (leaf .classes) at k) f parts r rows′ many′
       (found ∙ ap (rowFound rows 0 many) same) (with-it ∙ ap (withRow rows many r) same) now)
     where
       f : ℕ → Message
@@ -189,11 +189,11 @@ none-at (suc (suc (suc q))) = refl
 pub none-low : LowRows noParts
 none-low = (refl, λ q. omega (arith, none-at q))
 
-pub single-drawn : (leaf : Leaf) (y : ℕ) (rows : List ℤ) (many t v r : ℕ) (rows′ : List ℤ) (many′ : ℕ) → many < 4096 → 16384 ≤ length rows → t ≡ sortAt (leaf .sorts) y - 1 → v ≡ lowestIn (labelOf (stateOf (openState [] leaf)) y)
+pub single-drawn : (leaf : Leaf) (y : ℕ) (rows : List ℤ) (many t v r : ℕ) (rows′ : List ℤ) (many′ : ℕ) → 4 * many + 4 ≤ length rows → t ≡ sortAt (leaf .sorts) y - 1 → v ≡ lowestIn (labelOf (stateOf (openState [] leaf)) y)
     → r ≡ rowFound rows 0 many (madeRow t v (map pos noParts)) → rows′ ≡ withRow rows many r (madeRow t v (map pos noParts)) → many′ ≡ manyAfter many r → SingleDrawn leaf rows many y rows′ many′ r
-single-drawn leaf y rows many t v r rows′ many′ few long et ev found with-it now ts val drawn c is store =
+single-drawn leaf y rows many t v r rows′ many′ long et ev found with-it now ts val drawn c is store =
     subst (λ (m : Message). Drew ts rows many drawn 1 m rows′ many′ drawn r) value
-    (made-drew ts rows many drawn store few long t v noParts (λ q. noMessage) parts r rows′ many′ found with-it now)
+    (made-drew ts rows many drawn store long t v noParts (λ q. noMessage) parts r rows′ many′ found with-it now)
   where
     e : t ≡ is .type
     e = omega (arith, et, is .sort)

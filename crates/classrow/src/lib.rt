@@ -4,7 +4,7 @@ use drawnrows::made_row;
 use drawnrows::number_row;
 use leaf::Leaf;
 ghost use mathlib.Core.Path.{_≡_};
-ghost use Prim.Native.Nat.{_-_, _≤_, _<_};
+ghost use Prim.Native.Nat.{_+_, _*_, _-_, _≤_, _<_};
 ghost use lib.ListN.{length, getD};
 ghost use Rattle.classes.specs.Held.{Held};
 ghost use Rattle.arrays.specs.Slots.{ShapesFit};
@@ -57,7 +57,7 @@ fn shape_row(leaf: Leaf, at: &[u16; 96], rows: &mut [i32], many: usize, k: usize
     requires { ⌜ LeafFits leaf ⌝ }
     requires { ⌜ AtLow (now at) ⌝ }
     requires { ⌜ many < 4096 ⌝ }
-    requires { ⌜ 16384 ≤ length (now rows) ⌝ }
+    requires { ⌜ 4 * many + 4 ≤ length (now rows) ⌝ }
     ensures { λ d. ⌜ ShapeDrawn leaf (now (at .entry)) (now (rows .entry)) many k (now (rows .exit)) (d .many) (d .row) ⌝ }
 {
     let shapes = leaf.shapes;
@@ -80,7 +80,7 @@ fn shape_row(leaf: Leaf, at: &[u16; 96], rows: &mut [i32], many: usize, k: usize
 fn constant_row(leaf: Leaf, rows: &mut [i32], many: usize, k: usize) -> Drawn
     requires { ⌜ k < 30 ⌝ }
     requires { ⌜ many < 4096 ⌝ }
-    requires { ⌜ 16384 ≤ length (now rows) ⌝ }
+    requires { ⌜ 4 * many + 4 ≤ length (now rows) ⌝ }
     ensures { λ d. ⌜ ConstantDrawn leaf (now (rows .entry)) many k (now (rows .exit)) (d .many) (d .row) ⌝ }
 {
     let values = leaf.values;
@@ -93,7 +93,7 @@ fn single_row(leaf: Leaf, rows: &mut [i32], many: usize, y: u8) -> Drawn
     requires { ⌜ y < 96 ⌝ }
     requires { ⌜ LeafFits leaf ⌝ }
     requires { ⌜ many < 4096 ⌝ }
-    requires { ⌜ 16384 ≤ length (now rows) ⌝ }
+    requires { ⌜ 4 * many + 4 ≤ length (now rows) ⌝ }
     ensures { λ d. ⌜ SingleDrawn leaf (now (rows .entry)) many y (now (rows .exit)) (d .many) (d .row) ⌝ }
 {
     let classes = leaf.classes;
@@ -108,7 +108,7 @@ pub fn fixed_row(leaf: Leaf, at: &[u16; 96], rows: &mut [i32], many: usize, c: u
     requires { ⌜ LeafFits leaf ⌝ }
     requires { ⌜ AtLow (now at) ⌝ }
     requires { ⌜ many < 4096 ⌝ }
-    requires { ⌜ 16384 ≤ length (now rows) ⌝ }
+    requires { ⌜ 4 * many + 4 ≤ length (now rows) ⌝ }
     ensures { λ d. ⌜ FixedDrawn leaf (now (at .entry)) (now (rows .entry)) many c (now (rows .exit)) (d .many) (d .row) ⌝ }
 {
     let classes = leaf.classes;

@@ -1,2 +1,1 @@
-pub mod Decided
-pub mod Corollaries
+pub mod Loader

@@ -45,7 +45,7 @@ module _ (forms : Forms) (fit : FormsFit forms) where
     not-number n = ne-eqb (length (variantsOf ts t)) 0 (λ e. n (number-read forms fit t h ∙ e))
 
     module _ (blank : getD drawn t 0 ≡ 0) where
-      pub room-here : many < 4096
+      pub room-here : (many < 4096) × (4 * many + 4 ≤ length rows)
       room-here = room-unset rows many drawn t (omega (arith, store .six, small)) blank room
 
       pub number-default : (r : ℕ) (rows′ : List ℤ) (many′ : ℕ) → isNumber ts t ≡ true → NumberDrawn rows many t (pos 0) rows′ many′ r → Drew ts rows many drawn 0 (defaultOf ts t) rows′ many′ (set drawn t (r + 1)) r
@@ -84,11 +84,8 @@ module _ (forms : Forms) (fit : FormsFit forms) where
           left : Room rows′ many′ drawn′ 0
           left = parted-room ts fs 3 0 rows many drawn (length fs) ps rows′ many′ drawn′ parted 0 room
 
-          pub made-few : many′ < 4096
-          made-few = room-unset rows′ many′ drawn′ t (omega (arith, parted .store .six, small)) still left
-
-          pub made-long : 16384 ≤ length rows′
-          made-long = left .long
+          pub made-room : (many′ < 4096) × (4 * many′ + 4 ≤ length rows′)
+          made-room = room-unset rows′ many′ drawn′ t (omega (arith, parted .store .six, small)) still left
 
           module _ (r : ℕ) (rows″ : List ℤ) (many″ : ℕ) (found : r ≡ rowFound rows′ 0 many′ (madeRow t v (map pos ps))) (with-it : rows″ ≡ withRow rows′ many′ r (madeRow t v (map pos ps))) (now : many″ ≡ manyAfter many′ r) where
             pub made-default : Drew ts rows many drawn 0 (defaultOf ts t) rows″ many″ (set drawn′ t (r + 1)) r
@@ -98,7 +95,7 @@ module _ (forms : Forms) (fit : FormsFit forms) where
                 default-noted ts rows many drawn t h small rows″ many″ drawn′ r still
                 (subst (λ (m : Message). Drew ts rows many drawn 1 m rows″ many″ drawn′ r) whole
                 (drew-made ts t v 3 0 rows many drawn ps rows′ many′ drawn′ parted (fields-three forms fit t v) (variant-small forms fit t v h default-inside) default-inside
-                (fill-typed ts (fit .accepted) fs (sort-inside forms fit t v) 3 (messageAt ts rows many 0) (λ l. absurd (omega (arith, fields-three forms fit t v)))) made-few made-long 0 (λ i l. absurd (omega arith)) r rows″ many″ found with-it now))
+                (fill-typed ts (fit .accepted) fs (sort-inside forms fit t v) 3 (messageAt ts rows many 0) (λ l. absurd (omega (arith, fields-three forms fit t v)))) (made-room .1) 0 (λ i l. absurd (omega arith)) r rows″ many″ found with-it now))
 
             pub made-sparing : Sparing ts drawn (messageSize (defaultOf ts t)) (set drawn′ t (r + 1))
             made-sparing = noted-sparing ts rows many drawn t h small rows″ many″ drawn′ r (λ u l. sparing u (omega (arith, size-is)))

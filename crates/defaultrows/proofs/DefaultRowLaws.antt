@@ -3,7 +3,7 @@
 use mathlib.Core.Path.{_≡_, ap, sym, _∙_}
 use mathlib.Core.Bool.{Bool, true, false}
 use mathlib.Core.List.{List, [], _∷_}
-use Prim.Native.Nat.{ℕ, zero, suc, _+_, _≤_, _<_, _-_}
+use Prim.Native.Nat.{ℕ, zero, suc, _+_, _*_, _≤_, _<_, _-_}
 use native.Mathlib.Numerals.{add-one}
 use native.Mathlib.Omega.{arith}
 use lib.Dec.{eqb}
@@ -32,8 +32,8 @@ unset-set (y ∷ ys) (suc t) x h e = go (eqb y 0) (unset-set ys t x (omega arith
     go false q = q
 
 -- where an entry is unset, there is room for its row
-pub room-unset : (rows : List ℤ) (many : ℕ) (drawn : List ℕ) (t : ℕ) → t < length drawn → getD drawn t 0 ≡ 0 → Room rows many drawn 0 → many < 4096
-room-unset rows many drawn t h e room = omega (arith, unset-set drawn t 0 h e, room .few)
+pub room-unset : (rows : List ℤ) (many : ℕ) (drawn : List ℕ) (t : ℕ) → t < length drawn → getD drawn t 0 ≡ 0 → Room rows many drawn 0 → (many < 4096) × (4 * many + 4 ≤ length rows)
+room-unset rows many drawn t h e room = (omega (arith, unset-set drawn t 0 h e, room .few), omega (arith, unset-set drawn t 0 h e, room .long))
 
 -- a default drawn before
 pub default-known : (ts : Types) (rows : List ℤ) (many : ℕ) (drawn : List ℕ) (t : ℕ) → Store ts rows many drawn → 0 < getD drawn t 0 → Drew ts rows many drawn 0 (defaultOf ts t) rows many drawn (getD drawn t 0 - 1)

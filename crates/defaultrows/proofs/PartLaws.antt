@@ -42,7 +42,7 @@ module _ (ts : Types) (fs : Variant) (c row : ℕ) (rows : List ℤ) (many : ℕ
   module _ (p : ℕ) (ps : List ℕ) (rows′ : List ℤ) (many′ : ℕ) (drawn′ : List ℕ) (parted : Parted ts fs c row rows many drawn p ps rows′ many′ drawn′) where
     -- what room is left
     pub parted-room : (k : ℕ) → Room rows many drawn k → Room rows′ many′ drawn′ k
-    parted-room k room = record { few = omega (arith, parted .cost, room .few); long = omega (arith, parted .grown .long, room .long) }
+    parted-room k room = record { few = omega (arith, parted .cost, room .few); long = omega (arith, parted .cost, parted .grown .long, room .long) }
 
     module _ (fits : p < 3) (r : ℕ) where
       here-is : getD (set ps p r) p 0 ≡ r

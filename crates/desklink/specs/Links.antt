@@ -8,7 +8,7 @@ use lib.ListN.{length, drop}
 use Rattle.guard.specs.Limits.{Limits}
 use Rattle.guard.specs.declared.Answer.{Answer}
 use Rattle.answernumbers.specs.Numbers.{answerLength, answerNumbers}
-use Rattle.decide.specs.Decides.{Decides}
+use Rattle.decidewithin.specs.Decides.{Decides}
 use Rattle.explain.specs.Explains.{Explains}
 use Rattle.filewriter.specs.declared.FileWritten.{FileWritten}
 use Rattle.returncodes.specs.Code.{codeOf}

@@ -3,6 +3,7 @@
 ghost use mathlib.Core.Path.{_≡_};
 ghost use lib.ListN.{length};
 ghost use Rattle.guard.specs.Limits.{base};
+ghost use Rattle.decidewithin.specs.CallerLimits.{loader};
 ghost use Rattle.refutations.specs.Checker.{checked};
 ghost use Rattle.recordchecker.specs.Checks.{answer};
 ghost use Rattle.serialize.specs.NumberList.{listFile};
@@ -31,7 +32,27 @@ pub extern "C" fn guarddesk_decide(
     0
 }
 
-// The same, and after UNSAT the record of the search in front of `record`, zeros behind; all zeros after every other answer. Returns the
+// The same for the flight loader, within its smaller limits: at most 3 types, 8 terms and 8 lines, and buffers of at least 4,096 and 8
+// numbers.
+#[no_mangle]
+pub extern "C" fn guarddesk_load(
+    file: &[u8],
+    budget: u32,
+    rows: &mut [i32],
+    places: &mut [i32],
+    numbers: &mut [u32],
+) -> u32
+    ensures { λ r. ⌜ Links loader (now (file .entry)) budget (now (rows .entry)) (now (places .entry)) (now (numbers .entry)) r (now (rows .exit)) (now (places .exit)) (now (numbers .exit)) ⌝ }
+{
+    if numbers.len() > 4 {
+        let answer = decide::load(file, budget, rows, places);
+        answernumbers::put_answer(numbers, answer);
+        return 0;
+    }
+    1
+}
+
+// As `guarddesk_decide`, and after UNSAT the record of the search in front of `record`, zeros behind; all zeros after every other answer. Returns the
 // number of the record's bytes, or the largest number that there is if `numbers` is too short; then nothing is written.
 #[no_mangle]
 pub extern "C" fn guarddesk_explain(

@@ -77,7 +77,7 @@ module _ {ts : Types} {rows : List ℤ} {many : ℕ} {drawn : List ℕ} {k : ℕ
 
   -- what room is left
   pub drew-room : (l : ℕ) → Room rows many drawn (k + l) → Room rows′ many′ drawn′ l
-  drew-room l room = record { few = omega (arith, first .cost, room .few); long = omega (arith, first .grown .long, room .long) }
+  drew-room l room = record { few = omega (arith, first .cost, room .few); long = omega (arith, first .cost, first .grown .long, room .long) }
 
   -- a drawing with a row that has the first under it
   pub drew-after : {l : ℕ} {m′ : Message} {rows″ : List ℤ} {many″ : ℕ} {drawn″ : List ℕ} {r′ : ℕ} → Drew ts rows′ many′ drawn′ l m′ rows″ many″ drawn″ r′ → Under ts rows″ r′ r

@@ -54,9 +54,9 @@ module _ (ts : Types) (rows : List ℤ) (many : ℕ) (drawn : List ℕ) (store :
 
 -- ---- numbers
 
-pub number-drew : (rows : List ℤ) (many t : ℕ) (z : ℤ) (r : ℕ) (rows′ : List ℤ) (many′ : ℕ) → many < 4096 → 16384 ≤ length rows
+pub number-drew : (rows : List ℤ) (many t : ℕ) (z : ℤ) (r : ℕ) (rows′ : List ℤ) (many′ : ℕ) → 4 * many + 4 ≤ length rows
     → r ≡ rowFound rows 0 many (numberRow t z) → rows′ ≡ withRow rows many r (numberRow t z) → many′ ≡ manyAfter many r → NumberDrawn rows many t z rows′ many′ r
-number-drew rows many t z r rows′ many′ few long found with-it now ts drawn h e s =
+number-drew rows many t z r rows′ many′ long found with-it now ts drawn h e s =
     subst (λ (k : ℕ). Drew ts rows many drawn 1 (number t z) rows′ k drawn r) (sym now)
     (drew-added ts rows many drawn s (numberRow t z) r rows′
     (row-stored ts rows many (s .stored) (numberRow t z) refl (omega arith) (number-fits ts (decode ts rows many) many t z h e) 0 (λ i l. absurd (omega arith)) r rows′ found with-it) (number t z) (number-shown ts (decode ts rows many) many t z))
@@ -79,7 +79,7 @@ module _ (ts : Types) (t v : ℕ) (small : v < 16) (inside : v < length (variant
   pub none-before : (q : ℕ) → q < length (fieldsOf ts t v) → (i : ℕ) → i < getD ps q 0 + 1 → i < many → ¬ (rowNumbers rows i ≡ numbers)
   none-before q h i l = start-after-part ts rows many (store .stored) (16 * t + v) (map pos ps) q (omega (arith, counted)) i (omega (arith, part-number q))
 
-  module _ (few : many < 4096) (long : 16384 ≤ length rows) (start : ℕ) (none : (i : ℕ) → i < start → i < many → ¬ (rowNumbers rows i ≡ numbers))
+  module _ (long : 4 * many + 4 ≤ length rows) (start : ℕ) (none : (i : ℕ) → i < start → i < many → ¬ (rowNumbers rows i ≡ numbers))
       (r : ℕ) (rows′ : List ℤ) (many′ : ℕ) (found : r ≡ rowFound rows start many numbers) (with-it : rows′ ≡ withRow rows many r numbers) (now : many′ ≡ manyAfter many r) where
     abbrev whole : Message
     whole = made t v (toParts (map f (from (length (fieldsOf ts t v)) 0)))
@@ -123,17 +123,17 @@ module _ (ts : Types) (t v c row : ℕ) (rows : List ℤ) (many : ℕ) (drawn : 
   pub none-before-given : c < length (fieldsOf ts t v) → (i : ℕ) → i < row + 1 → i < many′ → ¬ (rowNumbers rows′ i ≡ madeRow t v (map pos ps))
   none-before-given h i l = none-before ts t v small inside rows′ many′ drawn′ (parted .store) ps (parted .three) (λ q. getD parts q noMessage) rows-of-parts c h i (omega (arith, parted .given h))
 
-  module _ (few : many′ < 4096) (long : 16384 ≤ length rows′) (start : ℕ) (none : (i : ℕ) → i < start → i < many′ → ¬ (rowNumbers rows′ i ≡ madeRow t v (map pos ps)))
+  module _ (long : 4 * many′ + 4 ≤ length rows′) (start : ℕ) (none : (i : ℕ) → i < start → i < many′ → ¬ (rowNumbers rows′ i ≡ madeRow t v (map pos ps)))
       (r : ℕ) (rows″ : List ℤ) (many″ : ℕ) (found : r ≡ rowFound rows′ start many′ (madeRow t v (map pos ps))) (with-it : rows″ ≡ withRow rows′ many′ r (madeRow t v (map pos ps))) (now : many″ ≡ manyAfter many′ r) where
     last : Drew ts rows′ many′ drawn′ 1 (made t v (toParts parts)) rows″ many″ drawn′ r
     last =
         let listed : map (λ q. getD parts q noMessage) (from (length (fieldsOf ts t v)) 0) ≡ parts =
         ap (λ (n : ℕ). map (λ q. getD parts q noMessage) (from n 0)) (sym (fill-length _ (fieldsOf ts t v) c _)) ∙ by-positions (λ (m : Message). m) parts noMessage ∙ map-id parts in
         subst (λ (l : List Message). Drew ts rows′ many′ drawn′ 1 (made t v (toParts l)) rows″ many″ drawn′ r) listed
-        (drew-over ts t v small inside rows′ many′ drawn′ (parted .store) ps (parted .three) (λ q. getD parts q noMessage) rows-of-parts few long start none r rows″ many″ found with-it now)
+        (drew-over ts t v small inside rows′ many′ drawn′ (parted .store) ps (parted .three) (λ q. getD parts q noMessage) rows-of-parts long start none r rows″ many″ found with-it now)
 
     under-made : (q : ℕ) → q < length (fieldsOf ts t v) → Under ts rows″ r (getD ps q 0)
-    under-made = part-under ts t v small inside rows′ many′ drawn′ (parted .store) ps (parted .three) (λ q. getD parts q noMessage) rows-of-parts few long start none r rows″ many″ found with-it now
+    under-made = part-under ts t v small inside rows′ many′ drawn′ (parted .store) ps (parted .three) (λ q. getD parts q noMessage) rows-of-parts long start none r rows″ many″ found with-it now
 
     -- the message over the parts; every row drawn for them lies under its row
     pub drew-made : Drew ts rows many drawn 1 (made t v (toParts parts)) rows″ many″ drawn′ r

@@ -3,7 +3,7 @@
 use mathlib.Core.Path.{_≡_}
 use mathlib.Core.Bool.{true}
 use mathlib.Core.List.{List, map}
-use Prim.Native.Nat.{ℕ, suc, _+_, _≤_, _<_}
+use Prim.Native.Nat.{ℕ, suc, _+_, _*_, _-_, _≤_, _<_}
 use lib.Dec.{eqb}
 use lib.IntN.{ℤ, pos}
 use lib.ListN.{length, getD}
@@ -30,10 +30,14 @@ pub record Store (ts : Types) (rows : List ℤ) (many : ℕ) (drawn : List ℕ) 
   pub six : length drawn ≡ 6
   pub known : (t x : ℕ) → getD drawn t 0 ≡ suc x → (t < length ts) × (x < many) × (messageAt ts rows many x ≡ defaultOf ts t)
 
--- room for so many rows, and for all defaults besides
+-- room for so many rows, and for all defaults besides; a row is a number below 4,096
 pub record Room (rows : List ℤ) (many : ℕ) (drawn : List ℕ) (cost : ℕ) : Type 0 where
   pub few : many + unset drawn + cost ≤ 4096
-  pub long : 16384 ≤ length rows
+  pub long : 4 * (many + unset drawn + cost) ≤ length rows
+
+-- the rows that growth takes at most, where no rank is above `most`: a lap of a cycle, the way to it, and a variant over both
+abbrev pub growthRows : Types → ℕ → ℕ
+growthRows ts most = most + (3 * length ts - 1)
 
 -- message m stands in row r of a later store: it took so many rows besides defaults, and every new row lies under r
 pub record Drew (ts : Types) (rows : List ℤ) (many : ℕ) (drawn : List ℕ) (price : ℕ) (m : Message) (rows′ : List ℤ) (many′ : ℕ) (drawn′ : List ℕ) (r : ℕ) : Type 0 where

@@ -4,7 +4,7 @@ use rowstore::row_of;
 use words::words_of;
 ghost use mathlib.Core.Path.{_≡_};
 ghost use mathlib.Core.List.{map};
-ghost use Prim.Native.Nat.{_*_, _≤_, _<_};
+ghost use Prim.Native.Nat.{_+_, _*_, _≤_, _<_};
 ghost use lib.IntN.{pos};
 ghost use lib.ListN.{length};
 ghost use Rattle.rowstore.specs.Store.{madeRow, manyAfter, rowFound, withRow};
@@ -34,7 +34,7 @@ fn drawn_at(many: usize, r: usize) -> Drawn
 // Number `z` of type `t`.
 pub fn number_row(rows: &mut [i32], many: usize, t: u8, z: i64) -> Drawn
     requires { ⌜ many < 4096 ⌝ }
-    requires { ⌜ 16384 ≤ length (now rows) ⌝ }
+    requires { ⌜ 4 * many + 4 ≤ length (now rows) ⌝ }
     ensures { λ d. ⌜ NumberDrawn (now (rows .entry)) many t z (now (rows .exit)) (d .many) (d .row) ⌝ }
 {
     let tag = -1 - t as i32;
@@ -53,7 +53,7 @@ pub fn made_row(
     parts: [usize; 3],
 ) -> Drawn
     requires { ⌜ many < 4096 ⌝ }
-    requires { ⌜ 16384 ≤ length (now rows) ⌝ }
+    requires { ⌜ 4 * many + 4 ≤ length (now rows) ⌝ }
     requires { ⌜ LowRows parts ⌝ }
     ensures { λ d. ⌜ d .row ≡ rowFound (now (rows .entry)) start many (madeRow t v (map pos parts)) ⌝ }
     ensures { λ d. ⌜ now (rows .exit) ≡ withRow (now (rows .entry)) many (d .row) (madeRow t v (map pos parts)) ⌝ }

@@ -19,7 +19,7 @@ use Rattle.guard.proofs.Claims.{accepts-all, base-supported}
 use Rattle.refutations.specs.Checker.{checked}
 use Rattle.refutations.specs.Record.{recordBytes}
 use Rattle.refutations.proofs.Theorems.{at-most-three, record-checked}
-use Rattle.decide.proofs.Decided.{questions-file, unsat-closed}
+use Rattle.decidewithin.proofs.Decided.{questions-file, unsat-closed}
 use Rattle.explain.specs.declared.Explained.{Explained}
 use Rattle.explain.specs.Explains.{Explains, askRecord, explained, explainedBy, recordAfter, recordBy, recorded}
 
@@ -64,7 +64,7 @@ module _ {bytes : List ℕ} {budget : ℕ} {rows places : List ℤ} {lent : List
       go (accepted g rest) k u =
           let (o, w) = unsat-asked (length lent) g (withBudget budget (searchOf g)) n u in
           let ends = unsat-closed budget (searchOf g) n o .0 in
-          let taken = questions-file bytes (length rows) (length places) g rest k in
+          let taken = questions-file base bytes (length rows) (length places) g rest k in
           ap (checked base bytes) w ∙ record-checked base bytes g (accepts-all base bytes g rest base-supported taken) (ends .0) (ends .1)
 
   -- "for it the rules on files taken and on budgets suppose a record buffer long enough": three bytes for each node are
@@ -77,6 +77,6 @@ module _ {bytes : List ℕ} {budget : ℕ} {rows places : List ℤ} {lent : List
     where
       enough : (n : Counts) → withBudget budget (searchOf g) ≡ unsat n → leb (length (recordBytes g)) (length lent) ≡ true
       enough n o =
-          let taken = questions-file bytes (length rows) (length places) g rest k in
+          let taken = questions-file base bytes (length rows) (length places) g rest k in
           let ends = unsat-closed budget (searchOf g) n o .0 in
           le-leb (length (recordBytes g)) (length lent) (omega (arith, h, at-most-three base bytes g (accepts-all base bytes g rest base-supported taken) (ends .0) (ends .1)))

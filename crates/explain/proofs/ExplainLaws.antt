@@ -27,8 +27,8 @@ use Rattle.bytebuffer.specs.Puts.{filled}
 use Rattle.bytebuffer.proofs.FillLaws.{filled-none, filled-with}
 use Rattle.recordwriter.specs.Records.{Records, writtenOf}
 use Rattle.recordwriter.proofs.RecordLaws.{written-none, written-with}
-use Rattle.decide.specs.Decides.{Decides}
-use Rattle.decide.proofs.Decided.{questions-file}
+use Rattle.decidewithin.specs.Decides.{Decides}
+use Rattle.decidewithin.proofs.Decided.{questions-file}
 use Rattle.explain.specs.Explains.{Explains, RecordsFile, Taken, askRecord, explained, explainedBy, isUnsat, padded, recordAfter, recordBy, recorded}
 
 -- ---- the record of an accepted file
@@ -133,7 +133,7 @@ module _ {bytes : List ℕ} {budget : ℕ} {rows places : List ℤ} (lent : List
     closed = closed-guard budget asks (outcomeOf answer) answers (same-test answer ∙ u)
 
     in-file : file base bytes ≡ accepted (closed .guard) (closed .rest)
-    in-file = questions-file bytes (length rows) (length places) (closed .guard) (closed .rest) (closed .is)
+    in-file = questions-file base bytes (length rows) (length places) (closed .guard) (closed .rest) (closed .is)
 
     pub taken : Taken bytes
     taken = record { guard = closed .guard; rest = closed .rest; is = in-file }

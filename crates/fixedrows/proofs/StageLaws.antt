@@ -3,7 +3,7 @@
 use mathlib.Core.Path.{_≡_, refl, ap, sym, _∙_, subst}
 use mathlib.Core.Bool.{true, false, false≢true}
 use mathlib.Core.List.{List}
-use Prim.Native.Nat.{ℕ, zero, suc, _≤_, _<_}
+use Prim.Native.Nat.{ℕ, zero, suc, _+_, _*_, _≤_, _<_}
 use native.Mathlib.Omega.{arith}
 use lib.Dec.{eqb, ltb}
 use lib.IntN.{ℤ}
@@ -71,10 +71,10 @@ module _ (leaf : Leaf) (at : List ℕ) (rows : List ℤ) (many n c : ℕ) where
     sheet-here = staged .stage .sheet
 
     pub due-few : many < 4096
-    due-few = omega (arith, sheet-room (openState (staged .types) leaf) (staged .val) rows many (staged .drawn) at sheet-here c (omega arith) (d .none))
+    due-few = omega (arith, sheet-here .enough .0, sheet-room (openState (staged .types) leaf) (staged .val) rows many (staged .drawn) at sheet-here c (omega arith) (d .none))
 
-    pub due-long : 16384 ≤ length rows
-    due-long = sheet-here .enough
+    pub due-long : 4 * many + 4 ≤ length rows
+    due-long = omega (arith, sheet-here .enough .1, sheet-room (openState (staged .types) leaf) (staged .val) rows many (staged .drawn) at sheet-here c (omega arith) (d .none))
 
     pub due-low : (e : ℕ) → getD at e 0 ≤ 4096
     due-low = sheet-low (openState (staged .types) leaf) (staged .val) rows many (staged .drawn) at sheet-here

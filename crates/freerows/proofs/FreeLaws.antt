@@ -29,7 +29,7 @@ use Rattle.growth.proofs.Orbit.{distance-root, iterate, root-less}
 use Rattle.growth.proofs.Plans.{Plan.around, Plan.atOnce, Plan.into, plannedMessage}
 use Rattle.forms.specs.declared.Forms.{Forms}
 use Rattle.forms.specs.Forms.{FormsFit, typesIn}
-use Rattle.drawnrows.specs.Drawing.{Drew, NumberDrawn}
+use Rattle.drawnrows.specs.Drawing.{Drew, NumberDrawn, growthRows}
 use Rattle.forms.proofs.FormLaws.{number-read}
 use Rattle.plans.specs.Chosen.{sortIn, variantIn}
 use Rattle.plans.specs.Fresh.{freshAfter, nextFresh}
@@ -226,10 +226,10 @@ module _ (forms : Forms) (fit : FormsFit forms) (leaf : Leaf) (c : ℕ) where
 
         module _ (rows : List ℤ) (many : ℕ) (drawn tops : List ℕ) (most last : ℕ) (now : FreeNow x c rows many drawn tops most last) where
           pub ended-free : stepsToNumber ts s < length ts → (next : ℕ) → next ≡ nextFresh (leaf .constants) (leaf .values) last
-              → (rows′ : List ℤ) (many′ : ℕ) (drawn′ : List ℕ) (r : ℕ) → Drew ts rows many drawn 50 (plannedMessage ts t (into v (stepsToNumber ts (chosenType ts t v)) (pos next))) rows′ many′ drawn′ r
+              → (rows′ : List ℤ) (many′ : ℕ) (drawn′ : List ℕ) (r : ℕ) → Drew ts rows many drawn (3 * length ts - 1) (plannedMessage ts t (into v (stepsToNumber ts (chosenType ts t v)) (pos next))) rows′ many′ drawn′ r
               → FreeDrawn x c rows many drawn rows′ many′ drawn′ tops next r
           ended-free ends next isNext rows′ many′ drawn′ r d = record {
-            drew = subst (λ (m : Message). Drew ts rows many drawn 50 m rows′ many′ drawn′ r) whole d;
+            drew = drew-more (3 * length ts - 1) (growthRows ts (highestRank x)) (omega arith) (subst (λ (m : Message). Drew ts rows many drawn (3 * length ts - 1) m rows′ many′ drawn′ r) whole d);
             chains = tops-kept x c (suc c) (circled-same x c (now .small) (ap₂ (λ (a b : Bool). a && b) (now .free) none)) rows many tops (now .chains) rows′ many′ (d .grown);
             fresh = next-last x c last next (now .fresh) isNext (now .small) (now .free) none;
           }
@@ -327,10 +327,10 @@ module _ (forms : Forms) (fit : FormsFit forms) (leaf : Leaf) (c : ℕ) where
                 ∙ ap (plannedMessage ts (typeFor x c)) (sym (plan-around x c varied-class outside))
 
             pub circled-free : (rows′ : List ℤ) (many′ : ℕ) (drawn′ tops′ : List ℕ) (r : ℕ)
-                → Drew ts rows many drawn 50 (wrapIn ts t v (growFrom ts (distanceOf ts s) s (lapMessage ts most rows many tops (rootOf ts s)))) rows′ many′ drawn′ r
+                → Drew ts rows many drawn (growthRows ts most) (wrapIn ts t v (growFrom ts (distanceOf ts s) s (lapMessage ts most rows many tops (rootOf ts s)))) rows′ many′ drawn′ r
                 → LapNoted ts most rows many tops (rootOf ts s) rows′ many′ tops′ → FreeDrawn x c rows many drawn rows′ many′ drawn′ tops′ last r
             circled-free rows′ many′ drawn′ tops′ r d noted = record {
-              drew = subst (λ (m : Message). Drew ts rows many drawn 50 m rows′ many′ drawn′ r) circled-whole d;
+              drew = drew-more (growthRows ts most) (growthRows ts (highestRank x)) (omega (arith, now .highest)) (subst (λ (m : Message). Drew ts rows many drawn (growthRows ts most) m rows′ many′ drawn′ r) circled-whole d);
               chains = lap-chains rows′ many′ tops′ noted (d .grown);
               fresh = now .fresh ∙ ap (freshAfter (leaf .constants) (leaf .values)) (sym (ends-same x c (now .small) (ap₂ (λ (a b : Bool). a && not b) (now .free) round)));
             }
@@ -340,7 +340,7 @@ module _ (forms : Forms) (fit : FormsFit forms) (leaf : Leaf) (c : ℕ) where
         → (next : ℕ) → next ≡ nextFresh (leaf .constants) (leaf .values) last → (rows′ : List ℤ) (many′ r : ℕ) → NumberDrawn rows many t (pos next) rows′ many′ r
         → FreeDrawn x c rows many drawn rows′ many′ drawn tops next r
     number-free n rows many drawn tops most last now next isNext rows′ many′ r number-drawn = record {
-      drew = drew-more 1 50 (omega arith) (subst (λ (m : Message). Drew ts rows many drawn 1 m rows′ many′ drawn r) whole d);
+      drew = drew-more 1 (growthRows ts (highestRank x)) (omega (arith, type-known)) (subst (λ (m : Message). Drew ts rows many drawn 1 m rows′ many′ drawn r) whole d);
       chains = tops-kept x c (suc c) (circled-same x c (now .small) (ap₂ (λ (a b : Bool). a && b) (now .free) none)) rows many tops (now .chains) rows′ many′ (d .grown);
       fresh = next-last x c last next (now .fresh) isNext (now .small) (now .free) none;
     }

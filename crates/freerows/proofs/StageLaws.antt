@@ -3,28 +3,29 @@
 use mathlib.Core.Path.{_≡_, refl, ap, sym, _∙_, subst}
 use mathlib.Core.Bool.{Bool, true, false, not, _&&_, false≢true}
 use mathlib.Core.List.{List, [], _∷_}
-use Prim.Native.Nat.{ℕ, zero, suc, _≤_, _<_, max}
+use Prim.Native.Nat.{ℕ, zero, suc, _+_, _≤_, _<_}
 use native.Mathlib.Omega.{arith}
 use lib.Dec.{eqb, ltb}
 use lib.IntN.{ℤ}
 use lib.ListN.{List·getD-eq-default, getD, getD-replicate, length, length-replicate, length-set, replicate, set}
 use borrow.Author.Tests.{eqb-false, eqb-true, ltb-false, ltb-true}
-use Rattle.laws.proofs.Bools.{and-left, by-test, cond-ind}
+use Rattle.laws.proofs.Bools.{and-left, by-test}
 use Rattle.laws.proofs.Members.{filter-most}
 use Rattle.guard.specs.Types.{Types}
 use Rattle.classes.specs.Held.{state}
 use Rattle.rowstore.specs.Store.{Grown, messageAt}
 use Rattle.rowstore.proofs.StoreLaws.{grown-itself, nothing-stored}
-use Rattle.drawnrows.specs.Drawing.{Under}
+use Rattle.drawnrows.specs.Drawing.{Under, growthRows, unset}
 use Rattle.defaultrows.proofs.DefaultRowLaws.{unset-set}
 use Rattle.drawnrows.proofs.DrawnLaws.{drew-kept, drew-under}
-use Rattle.plans.specs.Chosen.{freeAt, higherAt, highestBelow, highestOf, isMarked}
+use Rattle.plans.specs.Chosen.{freeAt, isMarked}
 use Rattle.plans.specs.Fresh.{freshAfter}
 use Rattle.plans.specs.Plans.{OpenState, circling, highestRank, isFree, marked}
 use Rattle.plans.proofs.CountLaws.{circled-none, ends-none}
-use Rattle.leaf.specs.Leaf.{LeafFits, openState}
-use Rattle.leaf.specs.Sheet.{Placed}
+use Rattle.leaf.specs.Leaf.{openState}
+use Rattle.leaf.specs.Sheet.{Enough, Placed, freeRows, rowsFor}
 use Rattle.leaf.specs.declared.Leaf.{Leaf}
+use Rattle.leaf.proofs.RoomLaws.{fixed-takes, free-takes, none-take, rows-rise}
 use Rattle.leaf.proofs.SheetLaws.{noted-ind, noted-kept, noted-there}
 use Rattle.freerows.specs.Free.{Blank, FreeDrawn, FreeFits, FreeNow, FreeSheet, FreeStage, freeMessage}
 use Rattle.freerows.proofs.FreeLaws.{circled-same, ends-same, tops-kept}
@@ -54,18 +55,6 @@ module _ (ts : Types) (leaf : Leaf) (c : ℕ) where
   unfolding isFree
   free-read = refl
 
--- the highest rank is low
-highest-below-low : (marks ranks : List ℕ) → ((c : ℕ) → getD ranks c 0 ≤ 31) → (n : ℕ) → highestBelow marks ranks n ≤ 31
-unfolding highestBelow higherAt
-highest-below-low marks ranks h zero = omega arith
-highest-below-low marks ranks h (suc c) =
-    cond-ind (λ k. k ≤ 31) (isMarked marks c) (max (highestBelow marks ranks c) (getD ranks c 0)) (highestBelow marks ranks c)
-    (λ e. omega (arith, highest-below-low marks ranks h c, h c)) (λ e. highest-below-low marks ranks h c)
-
-pub highest-low : (ts : Types) (leaf : Leaf) → LeafFits leaf → (most : ℕ) → most ≡ highestRank (openState ts leaf) → most ≤ 31
-unfolding highestRank highestOf
-highest-low ts leaf fits most e = subst (λ (k : ℕ). k ≤ 31) (sym e) (highest-below-low (leaf .marks) (leaf .ranks) (fits .ranks) 78)
-
 -- ---- the stages
 
 module _ (x : OpenState) where
@@ -74,13 +63,13 @@ module _ (x : OpenState) where
   free-marked c e = and-left (isMarked (x .marks) c) _ e
 
   -- nothing is drawn
-  pub stage-start : (at : List ℕ) → Blank at → (rows : List ℤ) → 16384 ≤ length rows → (zeros : List ℕ) → length zeros ≡ 6 → ((t : ℕ) → getD zeros t 0 ≡ 0) → FreeStage x 0 at rows 0 zeros zeros 0
+  pub stage-start : (at : List ℕ) → Blank at → (rows : List ℤ) → Enough x rows → (zeros : List ℕ) → length zeros ≡ 6 → ((t : ℕ) → getD zeros t 0 ≡ 0) → FreeStage x 0 at rows 0 zeros zeros 0
   unfolding freshAfter
   stage-start at (long, blank) rows enough zeros six none = record {
     store = record { stored = nothing-stored (x .types) rows; six = six; known = λ t y e. absurd (unnoted t y e) };
     long = long;
     enough = enough;
-    room = omega (arith, filter-most (λ k. eqb k 0) zeros, filter-most (λ k. eqb k 0) at);
+    room = omega (arith, none-take x, filter-most (λ k. eqb k 0) zeros, filter-most (λ k. eqb k 0) at);
     below = λ d r e. absurd (unplaced d r e);
     only = λ d r e. absurd (unplaced d r e);
     there = λ d r e. absurd (unplaced d r e);
@@ -104,7 +93,7 @@ module _ (x : OpenState) where
       store = stage .store;
       long = stage .long;
       enough = stage .enough;
-      room = omega (arith, stage .room);
+      room = omega (arith, fixed-takes x c unfree, stage .room);
       below = λ d r e. omega (arith, stage .below d r e);
       only = stage .only;
       there = stage .there;
@@ -117,16 +106,19 @@ module _ (x : OpenState) where
     }
 
     module _ (free : isFree x c ≡ true) where
-      pub stage-now : FreeFits x → (most : ℕ) → most ≡ highestRank x → most ≤ 31 → FreeNow x c rows many drawn tops most last
-      stage-now fits most e low = record {
+      -- its rows are among those that the buffer has room for
+      within : many + unset drawn + growthRows (x .types) (highestRank x) ≤ rowsFor x
+      within = omega (arith, stage .room, free-takes x c free, rows-rise x 78 (suc c) (omega arith))
+
+      pub stage-now : FreeFits x → (most : ℕ) → most ≡ highestRank x → FreeNow x c rows many drawn tops most last
+      stage-now fits most e = record {
         small = small;
         free = free;
         fits = fits c small free;
         store = stage .store;
-        room = record { few = omega (arith, stage .room); long = stage .enough };
+        room = record { few = omega (arith, within, stage .enough .0); long = omega (arith, within, stage .enough .1) };
         chains = stage .chains;
         highest = e;
-        low = low;
         fresh = stage .fresh;
       }
 
@@ -142,12 +134,15 @@ module _ (x : OpenState) where
             go zero e = refl
             go (suc q) e = absurd (omega (arith, stage .below c q e))
 
+        pub stage-low : r < 4096
+        stage-low = omega (arith, within, stage .enough .0, done .drew .there, done .drew .cost)
+
         pub stage-next : FreeStage x (suc c) (set at c (suc r)) rows′ many′ drawn′ tops′ last′
         stage-next = record {
           store = done .drew .store;
           long = length-set at c (suc r) ∙ stage .long;
-          enough = omega (arith, done .drew .grown .long, stage .enough);
-          room = omega (arith, unset-set at c r inside none-yet, done .drew .cost, stage .room);
+          enough = (stage .enough .0, omega (arith, done .drew .grown .long, stage .enough .1));
+          room = omega (arith, unset-set at c r inside none-yet, done .drew .cost, stage .room, free-takes x c free);
           below = noted-ind at c r inside (λ d q. d < suc c) (omega arith) (λ d q e. omega (arith, stage .below d q e));
           only = noted-ind at c r inside (λ d q. isFree x d ≡ true) free (stage .only);
           there = noted-ind at c r inside (λ d q. q < many′) (done .drew .there) (λ d q e. omega (arith, stage .there d q e, done .drew .grown .more));
@@ -191,7 +186,7 @@ stage-end ts leaf entry at rows many drawn tops last c all grown stage = record 
     store = stage .store;
     long = stage .long;
     enough = stage .enough;
-    room = omega (arith, stage .room, all);
+    room = omega (arith, stage .room, ap (freeRows (openState ts leaf)) all);
     only = λ d p. (omega (arith, stage .below d (p .0) (p .1), all), free-marked (openState ts leaf) d (stage .only d (p .0) (p .1)));
     there = stage .there;
     shows = λ d r e. stage .shows d r e ∙ sym (pictured .free d (omega (arith, stage .below d r e, all)) (stage .only d r e));

@@ -12,12 +12,12 @@ use Rattle.rowstore.specs.Store.{Grown, messageAt}
 use Rattle.growth.proofs.ClosedPlans.{lap}
 use Rattle.growth.proofs.Growth.{growFrom}
 use Rattle.growth.proofs.Plans.{plannedMessage}
-use Rattle.drawnrows.specs.Drawing.{Drew, Room, Store, Under, unset}
+use Rattle.drawnrows.specs.Drawing.{Drew, Room, Store, Under, growthRows, unset}
 use Rattle.plans.specs.Fresh.{freshAfter}
 use Rattle.plans.specs.Plans.{OpenState, circledBefore, endsBefore, highestRank, isFree, planFor, sortFor, typeFor, variantFor}
 use Rattle.leaf.specs.Leaf.{openState}
 use Rattle.leaf.specs.Picture.{Pictured}
-use Rattle.leaf.specs.Sheet.{HasRow, Placed, Sheet}
+use Rattle.leaf.specs.Sheet.{Enough, HasRow, Placed, Sheet, freeRows}
 use Rattle.leaf.specs.declared.Leaf.{Leaf}
 
 -- no class has a row
@@ -60,15 +60,14 @@ pub record FreeNow (x : OpenState) (c : ℕ) (rows : List ℤ) (many : ℕ) (dra
   pub free : isFree x c ≡ true
   pub fits : ClassFits x c
   pub store : Store (x .types) rows many drawn
-  pub room : Room rows many drawn 50
+  pub room : Room rows many drawn (growthRows (x .types) most)
   pub chains : Tops x c rows many tops
   pub highest : most ≡ highestRank x
-  pub low : most ≤ 31
   pub fresh : last ≡ lastFresh x c
 
--- free class c is drawn; it took at most 50 rows
+-- free class c is drawn
 pub record FreeDrawn (x : OpenState) (c : ℕ) (rows : List ℤ) (many : ℕ) (drawn : List ℕ) (rows′ : List ℤ) (many′ : ℕ) (drawn′ tops′ : List ℕ) (last′ row : ℕ) : Type 0 where
-  pub drew : Drew (x .types) rows many drawn 50 (freeMessage x c) rows′ many′ drawn′ row
+  pub drew : Drew (x .types) rows many drawn (growthRows (x .types) (highestRank x)) (freeMessage x c) rows′ many′ drawn′ row
   pub chains : Tops x (suc c) rows′ many′ tops′
   pub fresh : last′ ≡ lastFresh x (suc c)
 
@@ -76,9 +75,9 @@ pub record FreeDrawn (x : OpenState) (c : ℕ) (rows : List ℤ) (many : ℕ) (d
 pub record FreeStage (x : OpenState) (c : ℕ) (at : List ℕ) (rows : List ℤ) (many : ℕ) (drawn tops : List ℕ) (last : ℕ) : Type 0 where
   pub store : Store (x .types) rows many drawn
   pub long : length at ≡ 96
-  pub enough : 16384 ≤ length rows
-  -- the defaults, a row for each other class, and 50 for each class passed
-  pub room : many + unset drawn + unset at ≤ 102 + 50 * c
+  pub enough : Enough x rows
+  -- the defaults, a row for each other class, and what the free classes passed take
+  pub room : many + unset drawn + unset at ≤ 102 + freeRows x c
   pub below : (d r : ℕ) → Placed at d r → d < c
   pub only : (d r : ℕ) → Placed at d r → isFree x d ≡ true
   pub there : (d r : ℕ) → Placed at d r → r < many

@@ -4,7 +4,7 @@ use forms::Forms;
 use leaf::Leaf;
 ghost use mathlib.Core.Path.{_≡_};
 ghost use mathlib.Core.Bool.{true, false};
-ghost use Prim.Native.Nat.{suc, _+_, _≤_, _<_};
+ghost use Prim.Native.Nat.{suc, _+_, _*_, _-_, _≤_, _<_};
 ghost use lib.IntN.{pos};
 ghost use lib.ListN.{length};
 ghost use Rattle.guard.specs.Types.{isNumber};
@@ -16,6 +16,7 @@ ghost use Rattle.drawnrows.specs.Drawing.{Drew, NumberDrawn, Room, Store};
 ghost use Rattle.plans.specs.Fresh.{nextFresh};
 ghost use Rattle.plans.specs.Plans.{highestRank, isFree, typeFor};
 ghost use Rattle.leaf.specs.Leaf.{LeafFits, openState};
+ghost use Rattle.leaf.specs.Sheet.{Enough};
 ghost use Rattle.chains.specs.Chains.{Starts};
 ghost use Rattle.freerows.specs.Free.{Blank, ClassFits, FreeDrawn, FreeFits, FreeNow, FreeSheet, FreeStage};
 
@@ -35,7 +36,7 @@ struct Counted {
 // The next fresh number, of number type `t`.
 fn number_planned(leaf: Leaf, rows: &mut [i32], many: usize, last: u32, t: u8) -> Planned
     requires { ⌜ many < 4096 ⌝ }
-    requires { ⌜ 16384 ≤ length (now rows) ⌝ }
+    requires { ⌜ 4 * many + 4 ≤ length (now rows) ⌝ }
     requires { ⌜ last ≤ 4096 ⌝ }
     ensures { λ d. ⌜ d .last ≡ nextFresh (leaf .constants) (leaf .values) last ⌝ }
     ensures { λ d. ⌜ NumberDrawn (now (rows .entry)) many t (pos (d .last)) (now (rows .exit)) (d .many) (d .row) ⌝ }
@@ -65,12 +66,12 @@ fn ended_planned(
 ) -> Planned
     requires { ⌜ FormsFit forms ⌝ }
     requires { ⌜ Store (typesIn forms) (now rows) many (now drawn) ⌝ }
-    requires { ⌜ Room (now rows) many (now drawn) 50 ⌝ }
+    requires { ⌜ Room (now rows) many (now drawn) (3 * length (typesIn forms) - 1) ⌝ }
     requires { ⌜ last ≤ 4096 ⌝ }
     requires { ⌜ Starts (typesIn forms) t v s ⌝ }
     requires { ⌜ stepsToNumber (typesIn forms) s < length (typesIn forms) ⌝ }
     ensures { λ d. ⌜ d .last ≡ nextFresh (leaf .constants) (leaf .values) last ⌝ }
-    ensures { λ d. ⌜ Drew (typesIn forms) (now (rows .entry)) many (now (drawn .entry)) 50 (plannedMessage (typesIn forms) t (into v (stepsToNumber (typesIn forms) (chosenType (typesIn forms) t v)) (pos (d .last)))) (now (rows .exit)) (d .many) (now (drawn .exit)) (d .row) ⌝ }
+    ensures { λ d. ⌜ Drew (typesIn forms) (now (rows .entry)) many (now (drawn .entry)) (3 * length (typesIn forms) - 1) (plannedMessage (typesIn forms) t (into v (stepsToNumber (typesIn forms) (chosenType (typesIn forms) t v)) (pos (d .last)))) (now (rows .exit)) (d .many) (now (drawn .exit)) (d .row) ⌝ }
 {
     let constants = leaf.constants;
     let values = leaf.values;
@@ -190,7 +191,7 @@ pub fn free_rows(leaf: Leaf, forms: Forms, at: &mut [u16; 96], rows: &mut [i32],
     requires { ⌜ FreeFits (openState (typesIn forms) leaf) ⌝ }
     requires { ⌜ Blank (now at) ⌝ }
     requires { ⌜ most ≡ highestRank (openState (typesIn forms) leaf) ⌝ }
-    requires { ⌜ 16384 ≤ length (now rows) ⌝ }
+    requires { ⌜ Enough (openState (typesIn forms) leaf) (now rows) ⌝ }
     ensures { λ r. ⌜ FreeSheet (typesIn forms) leaf (now (rows .entry)) (now (at .exit)) (now (rows .exit)) r ⌝ }
 {
     let classes = leaf.classes;

@@ -82,7 +82,7 @@ module _ (forms : Forms) (fit : FormsFit forms) where
       (rows : List ℤ) (many : ℕ) (drawn : List ℕ) (store : Store ts rows many drawn) (room : Room rows many drawn 1)
       (row : ℕ) (low : row < many) (typed : messageType (messageAt ts rows many row) ≡ chosenType ts t v) (c : ℕ) (isC : c ≡ chosenField ts t v) where
     pub wrap-room : Room rows many drawn 0
-    wrap-room = record { few = omega (arith, room .few); long = room .long }
+    wrap-room = record { few = omega (arith, room .few); long = omega (arith, room .long) }
 
     there : c < length (fieldsOf ts t v)
     there = omega (arith, chosen-inside ts (fit .accepted) t v fields)
@@ -100,8 +100,8 @@ module _ (forms : Forms) (fit : FormsFit forms) where
       pub wrap-few : many′ < 4096
       wrap-few = omega (arith, wrap-left .few)
 
-      pub wrap-long : 16384 ≤ length rows′
-      wrap-long = wrap-left .long
+      pub wrap-long : 4 * many′ + 4 ≤ length rows′
+      wrap-long = omega (arith, wrap-left .long)
 
       module _ (r : ℕ) (rows″ : List ℤ) (many″ : ℕ) (found : r ≡ rowFound rows′ (row + 1) many′ (madeRow t v (map pos ps))) (with-it : rows″ ≡ withRow rows′ many′ r (madeRow t v (map pos ps))) (now : many″ ≡ manyAfter many′ r) where
         types : (q : ℕ) → q < length (fieldsOf ts t v) → messageType (getD (partsOver ts rows many (fieldsOf ts t v) c row) q noMessage) ≡ getD (fieldsOf ts t v) q 0
@@ -110,12 +110,12 @@ module _ (forms : Forms) (fit : FormsFit forms) where
         pub wrap-drew : Drew ts rows many drawn 1 (wrapIn ts t v (messageAt ts rows many row)) rows″ many″ drawn′ r
         wrap-drew =
             subst (λ (k : ℕ). Drew ts rows many drawn 1 (made t v (toParts (fill (defaultOf ts) (fieldsOf ts t v) k (messageAt ts rows many row)))) rows″ many″ drawn′ r) isC
-            (drew-made ts t v c row rows many drawn ps rows′ many′ drawn′ parted (fields-three forms fit t v) (variant-small forms fit t v h l) l types wrap-few wrap-long (row + 1)
+            (drew-made ts t v c row rows many drawn ps rows′ many′ drawn′ parted (fields-three forms fit t v) (variant-small forms fit t v h l) l types wrap-long (row + 1)
             (none-before-given ts t v c row rows many drawn ps rows′ many′ drawn′ parted (fields-three forms fit t v) (variant-small forms fit t v h l) l types there) r rows″ many″ found with-it now)
 
         pub wrap-under : Under ts rows″ r row
         wrap-under =
-            drew-given ts t v c row rows many drawn ps rows′ many′ drawn′ parted (fields-three forms fit t v) (variant-small forms fit t v h l) l types wrap-few wrap-long (row + 1)
+            drew-given ts t v c row rows many drawn ps rows′ many′ drawn′ parted (fields-three forms fit t v) (variant-small forms fit t v h l) l types wrap-long (row + 1)
             (none-before-given ts t v c row rows many drawn ps rows′ many′ drawn′ parted (fields-three forms fit t v) (variant-small forms fit t v h l) l types there) r rows″ many″ found with-it now there
 
   -- one step more, before those that are drawn
@@ -141,7 +141,7 @@ module _ (forms : Forms) (fit : FormsFit forms) where
     step-variant = variant-inside ts u growing step-fields
 
     pub step-room : Room rows′ many′ drawn′ 1
-    step-room = drew-room (g .0) 1 (record { few = omega (arith, room .few); long = room .long })
+    step-room = drew-room (g .0) 1 (record { few = omega (arith, room .few); long = omega (arith, room .long) })
 
     onward-is : iterate (nextType ts) left t ≡ nextType ts u
     onward-is = sym (step-on ts left t some) ∙ ap (nextType ts) (sym isU)
@@ -178,7 +178,7 @@ module _ (forms : Forms) (fit : FormsFit forms) where
     round-room =
         let most : suc k * long ≤ turns * long = mul-le-mul {n₁ = suc k} {m₁ = long} {n₂ = turns} {m₂ = long} (omega arith) (omega arith) in
         let next : suc k * long ≡ k * long + turn = omega (arith, turn-is) in
-        drew-room (g .0) turn (record { few = omega (arith, room .few, most, next); long = room .long })
+        drew-room (g .0) turn (record { few = omega (arith, room .few, most, next); long = omega (arith, room .long, most, next) })
 
     pub round-grows : GrowsBy ts turn t
     round-grows = cyclic-growth ts (fit .accepted) turn t cyclic

@@ -1,2 +1,3 @@
 pub mod Pictured
+pub mod RoomLaws
 pub mod SheetLaws

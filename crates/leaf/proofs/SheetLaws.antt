@@ -18,7 +18,7 @@ use Rattle.defaultrows.proofs.DefaultRowLaws.{unset-set}
 use Rattle.drawnrows.proofs.DrawnLaws.{drew-kept, drew-under}
 use Rattle.plans.specs.Plans.{OpenState}
 use Rattle.leaf.specs.Picture.{Wanted}
-use Rattle.leaf.specs.Sheet.{Placed, Sheet}
+use Rattle.leaf.specs.Sheet.{Placed, Sheet, rowsFor}
 
 -- a class noted, and the others
 module _ (at : List ℕ) (c r : ℕ) (inside : c < length at) where
@@ -46,7 +46,7 @@ module _ (at : List ℕ) (c r : ℕ) (inside : c < length at) where
 
 module _ (x : OpenState) (val : ℕ → Message) (rows : List ℤ) (many : ℕ) (drawn at : List ℕ) (sheet : Sheet x val rows many drawn at) where
   -- there is room for the row of a class that has none
-  pub sheet-room : (c : ℕ) → c < 96 → getD at c 0 ≡ 0 → many + unset drawn < 4096
+  pub sheet-room : (c : ℕ) → c < 96 → getD at c 0 ≡ 0 → many + unset drawn < rowsFor x
   sheet-room c h e = omega (arith, unset-set at c 0 (subst (λ (n : ℕ). c < n) (sym (sheet .long)) h) e, sheet .room)
 
   -- rows are numbers below 4,096
@@ -54,7 +54,7 @@ module _ (x : OpenState) (val : ℕ → Message) (rows : List ℤ) (many : ℕ) 
   sheet-low c = by-test (ltb 0 (getD at c 0))
       (λ b. let h : 0 < getD at c 0 = ltb-true 0 _ b in
       let (r, e) = one-more (getD at c 0) h in
-      omega (arith, sheet .there c r e, sheet .room))
+      omega (arith, sheet .there c r e, sheet .room, sheet .enough .0))
       (λ b. omega (arith, ltb-false 0 (getD at c 0) b))
     where
       one-more : (n : ℕ) → 0 < n → (r : ℕ) × (n ≡ suc r)
@@ -62,7 +62,7 @@ module _ (x : OpenState) (val : ℕ → Message) (rows : List ℤ) (many : ℕ) 
       one-more (suc r) h = (r, refl)
 
   module _ (cost c : ℕ) (wanted : Wanted x c) (none : getD at c 0 ≡ 0) (rows′ : List ℤ) (many′ : ℕ) (drawn′ : List ℕ) (r : ℕ) (drew : Drew (x .types) rows many drawn cost (val c) rows′ many′ drawn′ r)
-      (room : many + unset drawn + unset at + cost ≤ suc 4096) where
+      (room : many + unset drawn + unset at + cost ≤ suc (rowsFor x)) where
     inside : c < length at
     inside = subst (λ (n : ℕ). c < n) (sym (sheet .long)) (omega (arith, wanted .0))
 
@@ -70,7 +70,7 @@ module _ (x : OpenState) (val : ℕ → Message) (rows : List ℤ) (many : ℕ) 
     sheet-noted = record {
       store = drew .store;
       long = length-set at c (suc r) ∙ sheet .long;
-      enough = omega (arith, drew .grown .long, sheet .enough);
+      enough = (sheet .enough .0, omega (arith, drew .grown .long, sheet .enough .1));
       room = omega (arith, unset-set at c r inside none, drew .cost, room);
       only = λ d p. noted-ind at c r inside (λ e q. Wanted x e) wanted (λ e q h. sheet .only e (q, h)) d (p .0) (p .1);
       there = noted-ind at c r inside (λ e q. q < many′) (drew .there) (λ e q h. omega (arith, sheet .there e q h, drew .grown .more));

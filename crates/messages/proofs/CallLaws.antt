@@ -1,9 +1,9 @@
 -- What the calls of `draw` need and give, for the tables of an accepted guard and the closure of an open node.
 -- Assumes nothing.
-use mathlib.Core.Path.{_≡_, ap, sym, _∙_, subst}
+use mathlib.Core.Path.{_≡_, ap, ap₂, sym, _∙_, subst}
 use mathlib.Core.Bool.{true}
 use mathlib.Core.List.{List}
-use Prim.Native.Nat.{ℕ, _^_, _≤_, _<_}
+use Prim.Native.Nat.{ℕ, _*_, _^_, _≤_, _<_}
 use native.Mathlib.Omega.{arith}
 use lib.IntN.{ℤ}
 use lib.ListN.{length, getD}
@@ -14,6 +14,7 @@ use Rattle.guard.specs.Guard.{Guard}
 use Rattle.guard.specs.Limits.{variantLimit}
 use Rattle.guard.specs.Types.{Types, defaults}
 use Rattle.guard.proofs.ClosureState.{Small}
+use Rattle.tables.specs.declared.TypeTable.{TypeTable}
 use Rattle.tables.specs.Layout.{TypesInRange, defaultColumn, rowTable, typeTable}
 use Rattle.reader.specs.declared.Tables.{Tables}
 use Rattle.reader.specs.Reader.{guardTables}
@@ -29,11 +30,13 @@ use Rattle.plans.specs.Plans.{OpenState, isFree, openOf}
 use Rattle.plans.proofs.ClassLaws.{free-variant, sort-for, type-small}
 use Rattle.leaf.specs.declared.Leaf.{Leaf}
 use Rattle.leaf.specs.Leaf.{openState}
+use Rattle.leaf.specs.Sheet.{Enough, rowsFor}
 use Rattle.leaf.proofs.SheetLaws.{sheet-low}
 use Rattle.freerows.specs.Free.{ClassFits, FreeFits}
-use Rattle.messages.specs.Messages.{Draws}
+use Rattle.messages.specs.Messages.{Draws, rowsEnough}
 use Rattle.messages.specs.Rows.{Drawable, LeafOf, PlacesSet, RowsDrawn}
 use Rattle.messages.proofs.OpenLaws.{free-needed, is-open, message, message-pictured, nd, o}
+use Rattle.messages.proofs.FewRows.{node-rows, rows-small}
 use Rattle.messages.proofs.DrawLaws.{draws}
 
 -- labels of 16 bits are masks
@@ -53,6 +56,10 @@ module _ (tables : Tables) (g : Guard) (ok : Accepted g) (is : tables ≡ guardT
   pub many-terms : tables .rows .many ≡ length (g .rows)
   unfolding guardTables rowTable
   many-terms = ap (λ (t : Tables). t .rows .many) is
+
+  pub many-types : tables .types .many ≡ length (g .types)
+  unfolding typeTable
+  many-types = ap (λ (t : TypeTable). t .many) types-read
 
   pub few-terms : tables .rows .many ≤ 24
   few-terms = omega (arith, many-terms, ok .wellFormed .termCount, ok .supported .terms)
@@ -94,6 +101,18 @@ module _ (g : Guard) (ok : Accepted g) (s : State) (open′ : OpenLeaf g s) (hel
 
   pub leaf-drawable : Drawable ts leaf
   leaf-drawable = subst (λ (us : Types). Drawable us leaf) (sym same) (record { val = message g ok s open′ held small leaf is; pictured = message-pictured g ok s open′ held small leaf is })
+
+  -- the rows of the node, by the size of the guard
+  pub rows-room : (types terms : ℕ) (rows : List ℤ) → types ≡ length (g .types) → terms ≡ length (g .rows) → 4 * rowsEnough types terms ≤ length rows → Enough (openState ts leaf) rows
+  rows-room types terms rows et en room =
+      let size : rowsEnough types terms ≡ rowsEnough (length (g .types)) (length (g .rows)) = ap₂ (λ (a b : ℕ). rowsEnough a b) et en in
+      let node : rowsFor (openState ts leaf) ≡ rowsFor (openOf g s (leaf .marks)) = ap (λ (us : Types). rowsFor (openState us leaf)) same ∙ ap rowsFor (is-open g ok s open′ held small leaf is) in
+      let most : rowsFor (openState ts leaf) ≤ rowsEnough types terms = subst (λ (n : ℕ). rowsFor (openState ts leaf) ≤ n) (sym size) (subst (λ (n : ℕ). n ≤ rowsEnough (length (g .types)) (length (g .rows))) (sym node) (node-rows g ok s open′ held small leaf is)) in
+      let small′ : rowsEnough types terms ≤ 4096 = rows-small types terms (omega (arith, et, ok .wellFormed .typeCount, ok .supported .types)) (omega (arith, en, ok .wellFormed .termCount, ok .supported .terms)) in
+      within (rowsFor (openState ts leaf)) (rowsEnough types terms) most small′ room
+    where
+      within : (n k : ℕ) → n ≤ k → k ≤ 4096 → 4 * k ≤ length rows → (n ≤ 4096) × (4 * n ≤ length rows)
+      within n k a b c = (omega arith, omega arith)
 
   module _ (entry : List ℤ) (at : List ℕ) (rows : List ℤ) (many : ℕ) (drawn : RowsDrawn ts leaf entry at rows many) where
     pub rows-low : (c : ℕ) → getD at c 0 ≤ 4096

@@ -36,6 +36,7 @@ use Rattle.leaf.specs.Picture.{Pictured, ShapeIs, Wanted, partClass}
 use Rattle.leaf.specs.Sheet.{HasRow, Placed, Sheet}
 use Rattle.messages.specs.Messages.{Draws}
 use Rattle.messages.specs.Rows.{LeafOf, PlacesSet, RowsDrawn}
+use Rattle.messages.proofs.FewRows.{node-rows}
 use Rattle.messages.proofs.OpenLaws.{drawing, is-open, message, message-pictured, nd, need-wanted, o, rank, wanted-need}
 use Rattle.messages.proofs.RowParts.{PartOf, row-part}
 
@@ -138,7 +139,7 @@ module _ (g : Guard) (ok : Accepted g) (s : State) (open′ : OpenLeaf g s) (hel
 
   pub draws : Draws g many entryRows entryPlaces rows places
   draws = record {
-    few = omega (arith, sheet .room);
+    few = omega (arith, sheet .room, node-rows g ok s open′ held small leaf is);
     fit = sheet .store .stored .fit;
     apart = sheet .store .stored .apart;
     reached = rows-reached;

@@ -1,5 +1,6 @@
 pub mod OpenLaws
 pub mod RowParts
+pub mod FewRows
 pub mod DrawLaws
 pub mod PlaceLaws
 pub mod LeafLaws

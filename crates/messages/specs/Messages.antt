@@ -2,7 +2,7 @@
 use mathlib.Core.Path.{_≡_}
 use mathlib.Core.Bool.{true}
 use mathlib.Core.List.{List, map}
-use Prim.Native.Nat.{ℕ, _*_, _≤_, _<_}
+use Prim.Native.Nat.{ℕ, _+_, _*_, _≤_, _<_}
 use lib.IntN.{ℤ, pos}
 use lib.ListN.{length, getD, drop}
 use Rattle.laws.specs.Lists.{from}
@@ -23,10 +23,19 @@ pub record OpenTables (tables : Tables) (s : State) : Type 0 where
   pub is : tables ≡ guardTables guard
   pub leaf : OpenLeaf guard s
 
+-- Rows that always suffice for a guard with so many types and terms: one for each of 6 defaults and 96 numbers of classes, and
+-- for each term and sibling field what a free class takes: with ranks up to 30, a lap, the way to it and a variant over both.
+abbrev pub rowsEnough : ℕ → ℕ → ℕ
+rowsEnough types terms = 102 + (3 * types + 29) * (3 * terms)
+
+-- the buffers are long enough for what the tables hold
+abbrev pub RoomFor : Tables → List ℤ → List ℤ → Type 0
+RoomFor tables rows places = (rowWidth * rowsEnough (tables .types .many) (tables .rows .many) ≤ length rows) × (tables .rows .many ≤ length places)
+
 -- n rows and a place for each term show messages that make the guard hold; what lies past them is as it was
 pub record Draws (g : Guard) (n : ℕ) (rows places rows′ places′ : List ℤ) : Type 0 where
-  -- "4,096 rows always suffice"
-  pub few : n ≤ 4096
+  -- "4,096 rows always suffice", and fewer for a small guard
+  pub few : n ≤ rowsEnough (length (g .types)) (length (g .rows))
   pub fit : (i : ℕ) → i < n → rowFits (g .types) (decode (g .types) rows′ i) i (rowNumbers rows′ i) ≡ true
   -- "No two rows are alike"
   pub apart : (i j : ℕ) → i < n → j < n → getD (decode (g .types) rows′ n) i noMessage ≡ getD (decode (g .types) rows′ n) j noMessage → i ≡ j

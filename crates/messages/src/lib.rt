@@ -13,9 +13,10 @@ ghost use Rattle.classes.specs.Held.{Held, state};
 ghost use Rattle.roots.specs.Roots.{GuardsTables};
 ghost use Rattle.forms.specs.Forms.{FormsFit, typesIn};
 ghost use Rattle.leaf.specs.Leaf.{LeafFits, openState};
+ghost use Rattle.leaf.specs.Sheet.{Enough};
 ghost use Rattle.freerows.specs.Free.{Blank, FreeFits};
 ghost use Rattle.classrow.specs.ClassRow.{AtLow};
-ghost use Rattle.messages.specs.Messages.{DrawsFor, OpenTables};
+ghost use Rattle.messages.specs.Messages.{DrawsFor, OpenTables, RoomFor};
 ghost use Rattle.messages.specs.Rows.{Drawable, LeafFor, PlacesSet, RowsDrawn};
 
 // What the messages are drawn from.
@@ -57,7 +58,7 @@ fn draw_rows(leaf: Leaf, forms: Forms, at: &mut [u16; 96], rows: &mut [i32]) -> 
     requires { ⌜ FreeFits (openState (typesIn forms) leaf) ⌝ }
     requires { ⌜ Drawable (typesIn forms) leaf ⌝ }
     requires { ⌜ Blank (now at) ⌝ }
-    requires { ⌜ 16384 ≤ length (now rows) ⌝ }
+    requires { ⌜ Enough (openState (typesIn forms) leaf) (now rows) ⌝ }
     ensures { λ r. ⌜ RowsDrawn (typesIn forms) leaf (now (rows .entry)) (now (at .exit)) (now (rows .exit)) r ⌝ }
 {
     let marks = leaf.marks;
@@ -72,7 +73,7 @@ fn set_places(classes: &[u8; 96], at: &[u16; 96], many: usize, places: &mut [i32
     requires { ⌜ Held (now classes) ⌝ }
     requires { ⌜ AtLow (now at) ⌝ }
     requires { ⌜ many ≤ 24 ⌝ }
-    requires { ⌜ 24 ≤ length (now places) ⌝ }
+    requires { ⌜ many ≤ length (now places) ⌝ }
     ensures { λ _. ⌜ PlacesSet (now (classes .entry)) (now (at .entry)) many (now (places .entry)) (now (places .exit)) ⌝ }
 {
     let mut i: usize = 0;
@@ -95,8 +96,7 @@ pub fn draw(
     requires { ⌜ OpenTables tables (state (now classes) (now labels)) ⌝ }
     requires { ⌜ problem ≡ problemBy tables ⌝ }
     requires { ⌜ Held (now classes) ⌝ }
-    requires { ⌜ 16384 ≤ length (now rows) ⌝ }
-    requires { ⌜ 24 ≤ length (now places) ⌝ }
+    requires { ⌜ RoomFor tables (now rows) (now places) ⌝ }
     ensures { λ r. ⌜ DrawsFor tables (state (now (classes .entry)) (now (labels .entry))) (now (rows .entry)) (now (places .entry)) r (now (rows .exit)) (now (places .exit)) ⌝ }
 {
     let leaf = leaf_of(tables, problem, classes, labels);

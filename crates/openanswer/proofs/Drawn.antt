@@ -3,7 +3,7 @@
 use mathlib.Core.Path.{_≡_, refl, ap, ap₂, sym, subst, _∙_}
 use mathlib.Core.Bool.{true, false≢true}
 use mathlib.Core.List.{List, [], _∷_, _++_}
-use Prim.Native.Nat.{ℕ, zero, suc, _+_, _*_, _-_, _<_}
+use Prim.Native.Nat.{ℕ, zero, suc, _+_, _*_, _-_, _≤_, _<_}
 use native.Mathlib.Omega.{arith}
 use lib.Dec.{ltb}
 use lib.IntN.{ℤ, pos, negsuc}
@@ -14,13 +14,13 @@ use Rattle.laws.specs.Lists.{from}
 use Rattle.laws.proofs.Bools.{and-right, by-test}
 use Rattle.laws.proofs.Lists.{from-bounds, map-cong}
 use Rattle.guard.specs.Guard.{Guard, Row, Row.built, Row.constant, Row.field, Row.variable, noRow, rowAt}
-use Rattle.guard.specs.Limits.{base, rowWidth}
+use Rattle.guard.specs.Limits.{Limits, rowWidth}
 use Rattle.guard.specs.Meaning.{AllHold, Belongs, Holds, valueOf, values, valuesFrom}
 use Rattle.guard.specs.Message.{Message, noMessage}
 use Rattle.guard.specs.Shown.{Reached, Reached.part, Reached.place, Shows, decode, isBelow, natural, partCount, partsFit, rowFits, rowNumbers, shown}
 use Rattle.guard.specs.Types.{Types, Variant}
 use Rattle.rowstore.proofs.StoreLaws.{SameRows, below-is, decode-kept, fewer, hasVariant, part-fits, row-kept, tagFields}
-use Rattle.messages.specs.Messages.{Draws}
+use Rattle.messages.specs.Messages.{Draws, rowsEnough}
 
 -- ---- values look at the assignment where there are rows
 
@@ -100,10 +100,10 @@ module _ (g : Guard) (n : ℕ) (rows₀ places₀ rows places rows′ places′ 
       )
 
   -- with zeros past the last row and the last place, they show the messages
-  pub drawn-shows : drop (rowWidth * n) rows′ ≡ replicate (length rows′ - rowWidth * n) (pos 0) → drop many places′ ≡ replicate (length places′ - many) (pos 0) → Shows base g n rows′ places′
-  drawn-shows restRows restPlaces =
+  pub drawn-shows : (limits : Limits) → rowsEnough (length (g .types)) (length (g .rows)) ≤ limits .rows → drop (rowWidth * n) rows′ ≡ replicate (length rows′ - rowWidth * n) (pos 0) → drop many places′ ≡ replicate (length places′ - many) (pos 0) → Shows limits g n rows′ places′
+  drawn-shows limits most restRows restPlaces =
       record {
-        few = drawn .few;
+        few = omega (arith, drawn .few);
         fit = λ i h. ap₂ (λ (ms : List Message) (xs : List ℤ). rowFits ts ms i xs) (decode-kept rows′ rows ts i (fewer rows′ rows i n (omega arith) sameRows)) (row-kept rows′ rows i n h sameRows) ∙ drawn .fit i h;
         apart = λ i j h k e. drawn .apart i j h k (subst (λ (ms : List Message). getD ms i noMessage ≡ getD ms j noMessage) message-kept e);
         reached = λ i h. reached-kept i (drawn .reached i h) .1;

@@ -1,5 +1,5 @@
 -- The answer at an open node: what is drawn, with what lies past it cleared, shows messages. Assumes nothing.
-use mathlib.Core.Path.{_≡_, refl, ap, sym, subst, _∙_}
+use mathlib.Core.Path.{_≡_, refl, ap, ap₂, sym, subst, _∙_}
 use mathlib.Core.List.{List, _++_}
 use Prim.Native.Nat.{ℕ, _*_, _-_, _≤_}
 use native.Mathlib.Omega.{arith}
@@ -8,7 +8,7 @@ use lib.ListN.{length, take, drop, replicate}
 use Rattle.guard.specs.Answer.{outcomeOf, rowsOf}
 use Rattle.guard.specs.Closure.{State}
 use Rattle.guard.specs.Guard.{Guard}
-use Rattle.guard.specs.Limits.{base}
+use Rattle.guard.specs.Limits.{Limits}
 use Rattle.guard.specs.Search.{Counts}
 use Rattle.guard.specs.Shown.{Shows}
 use Rattle.guard.specs.declared.Answer.the-variants.{Sat}
@@ -16,7 +16,9 @@ use Rattle.tables.specs.Layout.{rowTable}
 use Rattle.reader.specs.Reader.{guardTables}
 use Rattle.reader.specs.declared.Tables.{Tables}
 use Rattle.search.specs.Nodes.{Accepted, OpenLeaf}
-use Rattle.messages.specs.Messages.{Draws, DrawsFor, OpenTables}
+use Rattle.messages.specs.Messages.{Draws, DrawsFor, OpenTables, RoomFor, rowsEnough}
+use Rattle.messages.proofs.CallLaws.{many-types}
+use Rattle.messages.proofs.FewRows.{rows-small}
 use Rattle.openanswer.specs.Open.{AnswersOpen}
 use Rattle.cleared.proofs.Cleared.{part-cleared, zero-back, zero-front, zero-length, zeroFrom}
 use Rattle.openanswer.proofs.Drawn.{drawn-shows}
@@ -29,7 +31,7 @@ accepted-terms : (g : Guard) → Accepted g → length (g .rows) ≤ 24
 accepted-terms g a = omega (arith, a .wellFormed .termCount, a .supported .terms)
 
 module _ (tables : Tables) (s : State) (rows places : List ℤ) (n : ℕ) (rows₁ places₁ : List ℤ) (draws : DrawsFor tables s rows places n rows₁ places₁) (found : OpenTables tables s)
-    (roomRows : 16384 ≤ length rows) (roomPlaces : 24 ≤ length places) where
+    (room : RoomFor tables rows places) where
   drawn-of : (g : Guard) → Accepted g → tables ≡ guardTables g → OpenLeaf g s → Draws g n rows places rows₁ places₁
   unfolding DrawsFor
   drawn-of = draws
@@ -45,14 +47,26 @@ module _ (tables : Tables) (s : State) (rows places : List ℤ) (n : ℕ) (rows�
   few-terms : tables .rows .many ≤ 24
   few-terms = omega (arith, terms-are (found .guard) (found .is), accepted-terms (found .guard) (found .accepted))
 
-  pub drawn-fits : (n ≤ 4096) × (tables .rows .many ≤ 24) × (16384 ≤ length rows₁) × (24 ≤ length places₁)
-  drawn-fits = (drawn .few, few-terms, omega (arith, drawn .longRows, roomRows), omega (arith, drawn .longPlaces, roomPlaces))
+  rows-few : n ≤ rowsEnough (tables .types .many) (tables .rows .many)
+  rows-few =
+      subst (λ (k : ℕ). n ≤ k) (sym (ap₂ (λ (a b : ℕ). rowsEnough a b) (many-types tables (found .guard) (found .accepted) (found .is)) (terms-are (found .guard) (found .is)))) (drawn .few)
+
+  types-few : tables .types .many ≤ 6
+  types-few = omega (arith, many-types tables (found .guard) (found .accepted) (found .is), found .accepted .wellFormed .typeCount, found .accepted .supported .types)
+
+  rows-low : (k : ℕ) → n ≤ k → k ≤ 4096 → 4 * k ≤ length rows → (n ≤ 4096) × (4 * n ≤ length rows₁)
+  rows-low k h l m = (omega arith, omega (arith, drawn .longRows))
+
+  pub drawn-fits : (n ≤ 4096) × (tables .rows .many ≤ 24) × (4 * n ≤ length rows₁) × (tables .rows .many ≤ length places₁)
+  drawn-fits =
+      let (low, long) = rows-low (rowsEnough (tables .types .many) (tables .rows .many)) rows-few (rows-small (tables .types .many) (tables .rows .many) types-few few-terms) (room .0) in
+      (low, few-terms, long, omega (arith, drawn .longPlaces, room .1))
 
   rows-within : 4 * n ≤ length rows₁
-  rows-within = omega (arith, drawn-fits)
+  rows-within = drawn-fits .2
 
   terms-within : tables .rows .many ≤ length places₁
-  terms-within = omega (arith, drawn-fits)
+  terms-within = drawn-fits .3
 
   -- ---- the answer
 
@@ -62,11 +76,11 @@ module _ (tables : Tables) (s : State) (rows places : List ℤ) (n : ℕ) (rows�
   abbrev shownPlaces : List ℤ
   shownPlaces = zeroFrom (tables .rows .many) places₁
 
-  shows : (g : Guard) → Accepted g → tables ≡ guardTables g → OpenLeaf g s → Shows base g n shownRows shownPlaces
-  shows g a is leaf =
+  shows : (g : Guard) → Accepted g → tables ≡ guardTables g → OpenLeaf g s → (limits : Limits) → rowsEnough (length (g .types)) (length (g .rows)) ≤ limits .rows → Shows limits g n shownRows shownPlaces
+  shows g a is leaf limits most =
       let many : tables .rows .many ≡ length (g .rows) = terms-are g is in
       drawn-shows g n rows places rows₁ places₁ shownRows shownPlaces (drawn-of g a is leaf) (zero-front (4 * n) rows₁ rows-within)
-      (subst (λ (k : ℕ). take k shownPlaces ≡ take k places₁) many (zero-front (tables .rows .many) places₁ terms-within))
+      (subst (λ (k : ℕ). take k shownPlaces ≡ take k places₁) many (zero-front (tables .rows .many) places₁ terms-within)) limits most
       (zero-back (4 * n) rows₁ rows-within)
       (subst (λ (k : ℕ). drop k shownPlaces ≡ replicate (length shownPlaces - k) (pos 0)) many (zero-back (tables .rows .many) places₁ terms-within))
 

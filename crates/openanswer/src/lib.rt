@@ -4,11 +4,9 @@ use guard::Answer;
 use problem::Problem;
 use reader::Tables;
 ghost use mathlib.Core.Path.{_≡_};
-ghost use Prim.Native.Nat.{_≤_};
-ghost use lib.ListN.{length};
 ghost use Rattle.problem.specs.Columns.{problemBy};
 ghost use Rattle.classes.specs.Held.{Held, state};
-ghost use Rattle.messages.specs.Messages.{OpenTables};
+ghost use Rattle.messages.specs.Messages.{OpenTables, RoomFor};
 ghost use Rattle.openanswer.specs.Open.{AnswersOpen};
 
 // The answer at an open node that the search found with so many nodes and splits: messages are drawn, and what lies past the last
@@ -27,8 +25,7 @@ pub fn answer_open(
     requires { ⌜ OpenTables tables (state (now classes) (now labels)) ⌝ }
     requires { ⌜ problem ≡ problemBy tables ⌝ }
     requires { ⌜ Held (now classes) ⌝ }
-    requires { ⌜ 16384 ≤ length (now rows) ⌝ }
-    requires { ⌜ 24 ≤ length (now places) ⌝ }
+    requires { ⌜ RoomFor tables (now rows) (now places) ⌝ }
     ensures { λ r. ⌜ AnswersOpen tables (state (now (classes .entry)) (now (labels .entry))) (record { nodes = nodes; first = first; second = second }) (now (rows .entry)) (now (places .entry)) r (now (rows .exit)) (now (places .exit)) ⌝ }
 {
     let n = messages::draw(tables, problem, classes, labels, rows, places);

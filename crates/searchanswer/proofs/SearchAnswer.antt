@@ -66,7 +66,7 @@ module _ (tables : Tables) (budget : ℕ) (o : Outcome) (classes labels : List �
           longRows = a .longRows;
           longPlaces = a .longPlaces;
           cleared = λ f. absurd (f used (a .says));
-          shown = λ g ok is n h. a .shown g ok is (leaf-is g ok is t e);
+          shown = λ g ok is n h limits most. a .shown g ok is (leaf-is g ok is t e) limits most;
         }
 
     module _ (rowsZero : rows′ ≡ replicate (length rows) (pos 0)) (placesZero : places′ ≡ replicate (length places) (pos 0)) where
@@ -80,7 +80,7 @@ module _ (tables : Tables) (budget : ℕ) (o : Outcome) (classes labels : List �
             longRows = long-zero rows rows′ rowsZero;
             longPlaces = long-zero places places′ placesZero;
             cleared = λ f. (rowsZero, placesZero);
-            shown = λ g ok is n h. let z : _≡_ {A = ℕ} 0 1 = cc in absurd (omega arith);
+            shown = λ g ok is n h limits most. let z : _≡_ {A = ℕ} 0 1 = cc in absurd (omega arith);
           }
 
       pub answered-spent : o ≡ Outcome.Spent t → AnswersTables tables budget rows places (Spent budget (t .first) (t .second)) rows′ places′
@@ -93,5 +93,5 @@ module _ (tables : Tables) (budget : ℕ) (o : Outcome) (classes labels : List �
             longRows = long-zero rows rows′ rowsZero;
             longPlaces = long-zero places places′ placesZero;
             cleared = λ f. (rowsZero, placesZero);
-            shown = λ g ok is n h. let z : _≡_ {A = ℕ} 0 1 = cc in absurd (omega arith);
+            shown = λ g ok is n h limits most. let z : _≡_ {A = ℕ} 0 1 = cc in absurd (omega arith);
           }

@@ -4,16 +4,14 @@ use guard::Answer;
 use openanswer::answer_open;
 use reader::Tables;
 use tallies::Outcome;
-ghost use Prim.Native.Nat.{_≤_};
-ghost use lib.ListN.{length};
+ghost use Rattle.messages.specs.Messages.{RoomFor};
 ghost use Rattle.roots.specs.Roots.{GuardsTables};
 ghost use Rattle.searchanswer.specs.Searched.{AnswersTables};
 
 // The answer to the tables of a guard, with the problem made once.
 pub fn answer_search(tables: Tables, budget: u32, rows: &mut [i32], places: &mut [i32]) -> Answer
     requires { ⌜ GuardsTables tables ⌝ }
-    requires { ⌜ 16384 ≤ length (now rows) ⌝ }
-    requires { ⌜ 24 ≤ length (now places) ⌝ }
+    requires { ⌜ RoomFor tables (now rows) (now places) ⌝ }
     ensures { λ r. ⌜ AnswersTables tables budget (now (rows .entry)) (now (places .entry)) r (now (rows .exit)) (now (places .exit)) ⌝ }
 {
     let problem = problem::problem_of(tables);

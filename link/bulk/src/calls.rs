@@ -5,6 +5,7 @@ use crate::known::Known;
 use crate::library;
 use guarddesk::raw;
 use oracle::answer::Answer;
+use oracle::guard::Limits;
 use oracle::random::Random;
 use oracle::read::Question;
 use std::fmt;
@@ -15,6 +16,8 @@ pub const MOST_LONGER: usize = 1_000;
 /// A call to be made of a file.
 #[derive(Clone, Copy, Debug)]
 pub struct Call {
+    /// The caller's.
+    pub limits: Limits,
     pub budget: u32,
     pub lengths: Lengths,
     pub expected: Expected,
@@ -71,18 +74,18 @@ fn enough(random: &mut Random, least: usize) -> usize {
 }
 
 impl Lengths {
-    fn enough(random: &mut Random) -> Lengths {
+    fn enough(random: &mut Random, limits: Limits) -> Lengths {
         Lengths {
-            rows: enough(random, raw::ROWS_LENGTH),
-            places: enough(random, raw::PLACES_LENGTH),
+            rows: enough(random, limits.row_buffer()),
+            places: enough(random, limits.place_buffer()),
             record: None,
             answer: enough(random, raw::ANSWER_LENGTH),
         }
     }
 
     /// The row buffer, the place buffer or both too short; mostly by one number.
-    fn short(random: &mut Random) -> Lengths {
-        let mut lengths = Lengths::enough(random);
+    fn short(random: &mut Random, limits: Limits) -> Lengths {
+        let mut lengths = Lengths::enough(random, limits);
         let which = 1 + random.below(3);
         let by_one = random.percent(90);
         let mut short = |least| {
@@ -93,10 +96,10 @@ impl Lengths {
             }
         };
         if which & 1 != 0 {
-            lengths.rows = short(raw::ROWS_LENGTH);
+            lengths.rows = short(limits.row_buffer());
         }
         if which & 2 != 0 {
-            lengths.places = short(raw::PLACES_LENGTH);
+            lengths.places = short(limits.place_buffer());
         }
         lengths
     }
@@ -111,9 +114,10 @@ impl Call {
         };
         let lengths = Lengths {
             record,
-            ..Lengths::enough(random)
+            ..Lengths::enough(random, known.limits)
         };
         Call {
+            limits: known.limits,
             budget,
             lengths,
             expected,
@@ -146,24 +150,27 @@ fn one_of<T: Copy>(random: &mut Random, some: &[T]) -> T {
 /// A call with too short a row or place buffer and, of some files, one with too short an answer buffer.
 fn short_calls(
     random: &mut Random,
+    limits: Limits,
     budgets: &[u32],
     record: impl Fn(&mut Random) -> Option<usize>,
 ) -> Vec<Call> {
     let mut calls = vec![Call {
+        limits,
         budget: one_of(random, budgets),
         lengths: Lengths {
             record: record(random),
-            ..Lengths::short(random)
+            ..Lengths::short(random, limits)
         },
         expected: Expected::Answer(Answer::Refused(Question::BuffersLongEnough)),
     }];
     if random.percent(5) {
         calls.push(Call {
+            limits,
             budget: one_of(random, budgets),
             lengths: Lengths {
                 record: record(random),
                 answer: random.below(raw::ANSWER_LENGTH),
-                ..Lengths::enough(random)
+                ..Lengths::enough(random, limits)
             },
             expected: Expected::TooShort,
         });
@@ -176,7 +183,7 @@ pub fn decide(known: &Known, random: &mut Random) -> Vec<Call> {
     let budgets = known.budgets(random);
     let call = |&budget: &u32| Call::new(random, known, budget, None);
     let mut calls: Vec<Call> = budgets.iter().map(call).collect();
-    calls.extend(short_calls(random, &budgets, |_| None));
+    calls.extend(short_calls(random, known.limits, &budgets, |_| None));
     calls
 }
 
@@ -211,6 +218,6 @@ pub fn explain(known: &Known, random: &mut Random) -> Vec<Call> {
         }
     }
     let room = |random: &mut Random| Some(one_of(random, &rooms));
-    calls.extend(short_calls(random, &budgets, room));
+    calls.extend(short_calls(random, known.limits, &budgets, room));
     calls
 }

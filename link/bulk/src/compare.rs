@@ -12,11 +12,12 @@ use crate::mismatch::Mismatch;
 use crate::writes::Writer;
 use guarddesk::raw;
 use oracle::answer::Answer;
+use oracle::guard::Limits;
 use oracle::random::Random;
 use oracle::read::Question;
 use oracle::search::Splits;
 use oracle::shown::check_known_call;
-use oracle::vectors::hex;
+use oracle::vectors::{hex, loads};
 
 /// Bytes of a node in a record, at the most: three numbers below 128.
 const NODE_BYTES: usize = 3;
@@ -108,6 +109,7 @@ impl<D: Desk> Comparer<D> {
             self.call(random, file, &known, call)?;
             counts.add_explain(call.expected);
         }
+        self.compare_loads(random, file, counts)?;
         let checked = &mut counts.checked;
         self.checker
             .compare(&self.desk, random, file, &known, checked)?;
@@ -117,6 +119,24 @@ impl<D: Desk> Comparer<D> {
         let merged = &mut counts.merged;
         self.merger
             .compare(&self.desk, random, file, &known, merged)
+    }
+
+    /// The loader's calls of a file, and of a small guard beside it.
+    fn compare_loads(
+        &mut self,
+        random: &mut Random,
+        file: &[u8],
+        counts: &mut Counts,
+    ) -> Result<(), Box<Mismatch>> {
+        for file in [file, &loads::small(random)] {
+            let known = Known::within(file, self.limit, Limits::LOADER);
+            same_as_the_desk(file, self.limit, &known)?;
+            for call in calls::decide(&known, random) {
+                let rows = self.call(random, file, &known, call)?;
+                counts.add_load(call.expected, rows);
+            }
+        }
+        Ok(())
     }
 
     /// One call, and the number of rows shown.
@@ -155,6 +175,9 @@ impl<D: Desk> Comparer<D> {
             record: self.record.lend(random, call.lengths.record.unwrap_or(0)),
         };
         match call.lengths.record {
+            None if call.limits == Limits::LOADER => {
+                self.desk.load(file, call.budget, lent) as usize
+            }
             None => self.desk.decide(file, call.budget, lent) as usize,
             Some(_) => self.desk.explain(file, call.budget, lent),
         }
@@ -215,10 +238,26 @@ impl<D: Desk> Comparer<D> {
     }
 }
 
+/// Request #110: "a file within the small limits gets the same refusal, or verdict, node and split counts, from both". Both are held to
+/// the outside solver, so it is asked; a file beyond the limits gets 4 from the loader.
+fn same_as_the_desk(file: &[u8], limit: u32, small: &Known) -> Result<(), Box<Mismatch>> {
+    let (loader, desk) = (small.answer(limit), Known::new(file, limit).answer(limit));
+    if loader == desk || loader == Answer::Refused(Question::CountWithinLimits) {
+        return Ok(());
+    }
+    let facts = vec![
+        ("file", hex(file)),
+        ("loader", loader.to_string()),
+        ("desk", desk.to_string()),
+    ];
+    let why = "the loader's answer isn't the desk's".to_string();
+    Err(Box::new(Mismatch { facts, why }))
+}
+
 #[cfg(test)]
 mod tests {
     use super::*;
-    use crate::desk::planted::{Check, Decide, Explain};
+    use crate::desk::planted::{Check, Decide, Explain, Load};
     use crate::desk::Library;
     use crate::library;
     use guarddesk::raw::decide_into;
@@ -261,6 +300,47 @@ mod tests {
     #[test]
     fn the_library_is_right() {
         assert_eq!(fault(Library), None);
+    }
+
+    #[test]
+    fn a_wrong_loader_is_found() {
+        let wrong: [(WrongDecide, &str); 4] = [
+            // The desk's own limits.
+            (decide_into, "expected REFUSED"),
+            (
+                |file, budget, rows, places, answer| {
+                    let code = raw::load_into(file, budget, rows, places, answer);
+                    if code == raw::ANSWERED && answer[0] == raw::UNSAT {
+                        answer[3] += 1;
+                    }
+                    code
+                },
+                "expected UNSAT",
+            ),
+            (
+                |file, budget, rows, places, answer| {
+                    let code = raw::load_into(file, budget, rows, places, answer);
+                    if code == raw::ANSWERED && answer[0] == raw::SAT && rows.len() > 4096 {
+                        rows[4096] = 1;
+                    }
+                    code
+                },
+                "past the last row",
+            ),
+            (
+                |file, budget, rows, places, answer| {
+                    let code = raw::load_into(file, budget, rows, places, answer);
+                    if code == raw::ANSWERED && answer[0] == raw::SAT && answer[2] > 1 {
+                        rows.swap(1, 5);
+                    }
+                    code
+                },
+                "row",
+            ),
+        ];
+        for (wrong, words) in wrong {
+            assert_found(Load(wrong), words);
+        }
     }
 
     #[test]

@@ -137,12 +137,15 @@ pub struct Counts {
     /// By the answer within the solver's limit; SPENT takes more nodes than that.
     pub files: Answers,
     pub decided: Calls,
+    pub loaded: Calls,
     pub explained: Calls,
     pub checked: Numbered,
     pub written: Numbered,
     pub merged: Numbered,
     pub most_nodes: u32,
     pub most_rows: usize,
+    /// Of the loader's calls.
+    pub most_loaded: usize,
     /// In bytes.
     pub longest_record: usize,
 }
@@ -165,6 +168,12 @@ impl Counts {
         self.most_rows = self.most_rows.max(rows);
     }
 
+    /// The same of the loader.
+    pub fn add_load(&mut self, expected: Expected, rows: usize) {
+        self.loaded.add(expected);
+        self.most_loaded = self.most_loaded.max(rows);
+    }
+
     pub fn add_explain(&mut self, expected: Expected) {
         self.explained.add(expected);
     }
@@ -173,12 +182,14 @@ impl Counts {
     pub fn merge(&mut self, other: &Counts) {
         self.files.merge(&other.files);
         self.decided.merge(&other.decided);
+        self.loaded.merge(&other.loaded);
         self.explained.merge(&other.explained);
         merge_all(&mut self.checked.0, &other.checked.0);
         merge_all(&mut self.written.0, &other.written.0);
         merge_all(&mut self.merged.0, &other.merged.0);
         self.most_nodes = self.most_nodes.max(other.most_nodes);
         self.most_rows = self.most_rows.max(other.most_rows);
+        self.most_loaded = self.most_loaded.max(other.most_loaded);
         self.longest_record = self.longest_record.max(other.longest_record);
     }
 }
@@ -188,6 +199,7 @@ impl fmt::Display for Counts {
         let Counts {
             files,
             decided,
+            loaded,
             explained,
             checked,
             written,
@@ -196,6 +208,7 @@ impl fmt::Display for Counts {
         } = self;
         write!(f, "files {}: {files}", files.total())?;
         write!(f, "decide {}: {decided}", decided.total())?;
+        write!(f, "load {}: {loaded}", loaded.total())?;
         write!(f, "explain {}: {explained}", explained.total())?;
         write!(f, "check {}: {checked}", checked.total())?;
         write!(f, "write {}: {written}", written.total())?;
@@ -203,7 +216,8 @@ impl fmt::Display for Counts {
         let (nodes, rows, record) = (self.most_nodes, self.most_rows, self.longest_record);
         writeln!(
             f,
-            "most nodes {nodes}, most rows {rows}, longest record {record}"
+            "most nodes {nodes}, most rows {rows}, {} of the loader, longest record {record}",
+            self.most_loaded
         )
     }
 }

@@ -18,6 +18,11 @@ pub trait Desk {
         raw::decide_into(file, budget, lent.rows, lent.places, lent.answer)
     }
 
+    /// The flight loader's call (request #110).
+    fn load(&self, file: &[u8], budget: u32, lent: &mut Lent) -> u32 {
+        raw::load_into(file, budget, lent.rows, lent.places, lent.answer)
+    }
+
     fn explain(&self, file: &[u8], budget: u32, lent: &mut Lent) -> usize {
         let Lent {
             rows,
@@ -59,6 +64,18 @@ pub mod planted {
         D: Fn(&[u8], u32, &mut [i32], &mut [i32], &mut [u32]) -> u32,
     {
         fn decide(&self, file: &[u8], budget: u32, lent: &mut Lent) -> u32 {
+            (self.0)(file, budget, lent.rows, lent.places, lent.answer)
+        }
+    }
+
+    #[derive(Clone, Copy)]
+    pub struct Load<L>(pub L);
+
+    impl<L> Desk for Load<L>
+    where
+        L: Fn(&[u8], u32, &mut [i32], &mut [i32], &mut [u32]) -> u32,
+    {
+        fn load(&self, file: &[u8], budget: u32, lent: &mut Lent) -> u32 {
             (self.0)(file, budget, lent.rows, lent.places, lent.answer)
         }
     }

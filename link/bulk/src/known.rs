@@ -9,6 +9,8 @@ use oracle::search::{search, End, Splits, Tally};
 
 /// What the outside solver says of a file.
 pub struct Known {
+    /// Those of the caller.
+    pub limits: Limits,
     /// An accepted file's guard, or the question that refuses it.
     pub guard: Result<Guard, Question>,
     /// How the search ended, within `limit` nodes.
@@ -23,7 +25,12 @@ pub struct Known {
 
 impl Known {
     pub fn new(file: &[u8], limit: u32) -> Known {
-        let guard = read::read(file, Limits::BASE);
+        Known::within(file, limit, Limits::BASE)
+    }
+
+    /// For a caller with these limits.
+    pub fn within(file: &[u8], limit: u32, limits: Limits) -> Known {
+        let guard = read::read(file, limits);
         let (end, tally, entries) = match &guard {
             Ok(guard) => {
                 let (end, tally) = search(guard, limit);
@@ -39,6 +46,7 @@ impl Known {
             _ => record::bytes(&entries),
         };
         Known {
+            limits,
             guard,
             end,
             nodes: tally.nodes,

@@ -243,6 +243,10 @@ mod tests {
             assert!(calls.answers.refused.iter().all(|&many| many > 0));
             assert!(calls.too_short > 0);
         }
+        let loaded = counts.loaded;
+        assert!(loaded.answers.sat > 0 && loaded.answers.unsat > 0 && loaded.answers.spent > 0);
+        assert!(loaded.answers.refused.iter().all(|&many| many > 0));
+        assert!(loaded.too_short > 0 && loaded.outgrown == 0 && counts.most_loaded > 1);
         assert!(counts.decided.outgrown == 0 && counts.explained.outgrown > 0);
         // Questions that the checker, the writer and the merge don't ask.
         let never: [(Numbered, &[usize]); 3] = [

@@ -1,7 +1,7 @@
 //! The guard desk for Rust programs: whether a guard over message fields can hold at all and, where it can, messages that
 //! make it hold.
 //!
-//! [`decide`], [`explain`], [`check`], [`write()`] and [`merge`] are safe functions over the proved library `libdesklink.a`. What that
+//! [`decide`], [`load`], [`explain`], [`check`], [`write()`] and [`merge`] are safe functions over the proved library `libdesklink.a`. What that
 //! library gives is proved for every file, budget, record and list; what this crate makes of it (types, text) is tested. A guard file is at
 //! most 585 bytes long; its format is that of document 01, with values over 64 bits.
 //!
@@ -87,6 +87,36 @@ pub fn decide(file: &[u8], budget: u32) -> Answer {
     let mut places = [0; raw::PLACES_LENGTH];
     let mut answer = [0; raw::ANSWER_LENGTH];
     let code = raw::decide_into(file, budget, &mut rows, &mut places, &mut answer);
+    answered(file, code, answer, &rows, &places)
+}
+
+/// Decides a guard file of at most 3 types, 8 terms and 8 lines with a quarter of the memory, as the flight loader does: the answer
+/// is that of [`decide`], but with other messages perhaps. A larger guard is refused, question 4.
+///
+/// ```
+/// use guarddesk::{decide, load, Answer};
+///
+/// // A number type and nine variables of it: one more than the loader takes.
+/// let file = [&[1, 0, 9][..], &[0, 0].repeat(9), &[0]].concat();
+/// assert!(matches!(decide(&file, 1), Answer::Sat { nodes: 1, .. }));
+/// assert_eq!(load(&file, 1), Answer::Refused { question: 4 });
+/// ```
+pub fn load(file: &[u8], budget: u32) -> Answer {
+    let mut rows = vec![0; raw::LOADER_ROWS_LENGTH];
+    let mut places = [0; raw::LOADER_PLACES_LENGTH];
+    let mut answer = [0; raw::ANSWER_LENGTH];
+    let code = raw::load_into(file, budget, &mut rows, &mut places, &mut answer);
+    answered(file, code, answer, &rows, &places)
+}
+
+/// The answer that the numbers and the buffers of a call stand for.
+fn answered(
+    file: &[u8],
+    code: u32,
+    answer: [u32; raw::ANSWER_LENGTH],
+    rows: &[i32],
+    places: &[i32],
+) -> Answer {
     let [verdict, number, many, first_splits, second_splits] = answer;
     match (code, verdict) {
         (raw::ANSWERED, raw::REFUSED) => Answer::Refused { question: number },
@@ -94,7 +124,7 @@ pub fn decide(file: &[u8], budget: u32) -> Answer {
             nodes: number,
             first_splits,
             second_splits,
-            messages: Messages::read(file, many as usize, &rows, &places),
+            messages: Messages::read(file, many as usize, rows, places),
         },
         (raw::ANSWERED, raw::UNSAT) => Answer::Unsat {
             nodes: number,

@@ -1,5 +1,5 @@
-//! The library's five functions over the caller's own buffers, for programs that keep buffers between calls or look at every
-//! number of them. The only unsafe code of the crate. [`decide`](crate::decide), [`explain`](crate::explain),
+//! The library's six functions over the caller's own buffers, for programs that keep buffers between calls or look at every
+//! number of them. The only unsafe code of the crate. [`decide`](crate::decide), [`load`](crate::load), [`explain`](crate::explain),
 //! [`check`](crate::check), [`write`](crate::write) and [`merge`](crate::merge) are easier to use.
 //!
 //! ```
@@ -17,6 +17,10 @@
 pub const ROWS_LENGTH: usize = 16384;
 /// How many numbers the place buffer has to hold.
 pub const PLACES_LENGTH: usize = 24;
+/// How many numbers the row buffer of [`load_into`] has to hold.
+pub const LOADER_ROWS_LENGTH: usize = 4096;
+/// How many numbers the place buffer of [`load_into`] has to hold.
+pub const LOADER_PLACES_LENGTH: usize = 8;
 /// How many numbers the answer has.
 pub const ANSWER_LENGTH: usize = 5;
 /// How many bytes of a record suffice for each node of the node count.
@@ -44,6 +48,18 @@ pub const SPENT: u32 = 3;
 // As link/guarddesk.h has it.
 extern "C" {
     fn guarddesk_decide(
+        file: *const u8,
+        file_length: usize,
+        budget: u32,
+        rows: *mut i32,
+        rows_length: usize,
+        places: *mut i32,
+        places_length: usize,
+        answer: *mut u32,
+        answer_length: usize,
+    ) -> u32;
+
+    fn guarddesk_load(
         file: *const u8,
         file_length: usize,
         budget: u32,
@@ -113,6 +129,32 @@ pub fn decide_into(
     // no other condition, keeps no pointer and does not unwind.
     unsafe {
         guarddesk_decide(
+            file.as_ptr(),
+            file.len(),
+            budget,
+            rows.as_mut_ptr(),
+            rows.len(),
+            places.as_mut_ptr(),
+            places.len(),
+            answer.as_mut_ptr(),
+            answer.len(),
+        )
+    }
+}
+
+/// Decides as [`decide_into`], for a caller with less memory: [`LOADER_ROWS_LENGTH`] and [`LOADER_PLACES_LENGTH`] numbers are long
+/// enough, and a file of more than 3 types, 8 terms or 8 lines is [`REFUSED`], question 4.
+#[allow(unsafe_code)]
+pub fn load_into(
+    file: &[u8],
+    budget: u32,
+    rows: &mut [i32],
+    places: &mut [i32],
+    answer: &mut [u32],
+) -> u32 {
+    // SAFETY: as in `decide_into`.
+    unsafe {
+        guarddesk_load(
             file.as_ptr(),
             file.len(),
             budget,

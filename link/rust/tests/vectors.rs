@@ -1,6 +1,6 @@
 //! All vectors of the repository through the library: verdicts, node counts and splits, records, what the checker says of others, files
 //! written from lists and merged files are those of the outside solver; and the records that the library writes are accepted.
-use guarddesk::{check, decide, explain, merge, raw, write};
+use guarddesk::{check, decide, explain, load, merge, raw, write};
 use guarddesk::{Answer, Branch, MergeRefusal, Question, Refusal};
 
 const VECTORS: &str = concat!(env!("CARGO_MANIFEST_DIR"), "/../../vectors");
@@ -53,6 +53,50 @@ fn decide_all() {
         }
         assert_eq!(line, expected, "{name}");
     });
+}
+
+/// The loader's answers: over buffers of the lengths given, and where these are long enough by the easier call.
+fn load_all() {
+    for_each_line(
+        "loads.txt",
+        900,
+        |[name, budget, rows, places, hex, expected]| {
+            let (file, budget) = (bytes(hex), budget.parse().unwrap());
+            let (rows, places): (usize, usize) = (rows.parse().unwrap(), places.parse().unwrap());
+            let (mut rows, mut places) = (vec![7; rows], vec![7; places]);
+            let mut answer = [7; raw::ANSWER_LENGTH];
+            let code = raw::load_into(&file, budget, &mut rows, &mut places, &mut answer);
+            assert_eq!(code, raw::ANSWERED, "{name}");
+            let [verdict, number, many, first, second] = answer;
+            let line = match verdict {
+                raw::REFUSED => format!("REFUSED {number}"),
+                raw::SAT => format!("SAT {number} splits {first} {second}"),
+                raw::UNSAT => format!("UNSAT {number} splits {first} {second}"),
+                _ => format!("SPENT {number} splits {first} {second}"),
+            };
+            assert_eq!(line, expected, "{name}");
+            let past = if verdict == raw::SAT {
+                4 * many as usize
+            } else {
+                0
+            };
+            assert!(rows[past..].iter().all(|&number| number == 0), "{name}");
+            if expected != "REFUSED 1" {
+                assert_eq!(
+                    load(&file, budget).to_string().lines().next(),
+                    line.split(" splits").next(),
+                    "{name}"
+                );
+            }
+            if !expected.starts_with("REFUSED 1") && expected != "REFUSED 4" {
+                assert_eq!(
+                    splits(&load(&file, budget)),
+                    splits(&decide(&file, budget)),
+                    "{name}"
+                );
+            }
+        },
+    );
 }
 
 /// The nodes and the splits of a tree.
@@ -158,6 +202,11 @@ fn in_the_stack_asked_for(run: fn()) {
 #[test]
 fn answers_of_all_vectors() {
     in_the_stack_asked_for(decide_all);
+}
+
+#[test]
+fn the_loaders_answers() {
+    in_the_stack_asked_for(load_all);
 }
 
 #[test]

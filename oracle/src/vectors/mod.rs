@@ -5,6 +5,7 @@ mod cases;
 mod families;
 pub mod far;
 pub mod lists;
+pub mod loads;
 pub mod merges;
 mod numbers;
 pub mod profiles;

@@ -12,7 +12,7 @@ element-copy-out-root c =
     let a = s .args in
     let fit = s .pre .0 in
     let p = s .pre .1 .1 .1 in
-    let less = start-less (a .forms) fit (a .t) (a .v) (a .s) (p .1 .1 .0) in
+    let less = start-less (a .forms) fit (a .t) (a .v) (a .s) (p .1 .0) in
     type-small (a .forms) fit (a .s) less
 
 element-copy-out-n : tie.Need-element-copy-out-n
@@ -21,7 +21,7 @@ element-copy-out-n c =
     let a = s .args in
     let fit = s .pre .0 in
     let p = s .pre .1 .1 .1 in
-    let less = start-less (a .forms) fit (a .t) (a .v) (a .s) (p .1 .1 .0) in
+    let less = start-less (a .forms) fit (a .t) (a .v) (a .s) (p .1 .0) in
     type-small (a .forms) fit (a .s) less
 
 lapped-row-requires : tie.Need-lapped-row-requires
@@ -30,8 +30,8 @@ lapped-row-requires c κs =
     let a = s .args in
     let fit = s .pre .0 in
     let p = s .pre .1 .1 .1 in
-    let less = start-less (a .forms) fit (a .t) (a .v) (a .s) (p .1 .1 .0) in
-    (fit, (s .pre .1 .0, (circle-room (a .forms) fit (a .t) (a .v) (a .s) (p .1 .1 .0) (p .1 .1 .1) (getD (a .forms .growth .root) (a .s) 0) (root-read (a .forms) fit (a .s) less) (getD (a .forms .growth .distance) (a .s) 0) (distance-read (a .forms) fit (a .s) less) (a .most) (p .1 .0) (a .rows .now) (a .many) (a .drawn .now) (a .tops .now) (s .pre .1 .1 .0) (p .0), (p .0, (root-inside (a .forms) fit (a .t) (a .v) (a .s) (p .1 .1 .0) (p .1 .1 .1) (getD (a .forms .growth .root) (a .s) 0) (root-read (a .forms) fit (a .s) less) (getD (a .forms .growth .distance) (a .s) 0) (distance-read (a .forms) fit (a .s) less), (root-cyclic (a .forms) fit (a .t) (a .v) (a .s) (p .1 .1 .0) (p .1 .1 .1) (getD (a .forms .growth .root) (a .s) 0) (root-read (a .forms) fit (a .s) less) (getD (a .forms .growth .distance) (a .s) 0) (distance-read (a .forms) fit (a .s) less), root-back (a .forms) fit (a .t) (a .v) (a .s) (p .1 .1 .0) (p .1 .1 .1) (getD (a .forms .growth .root) (a .s) 0) (root-read (a .forms) fit (a .s) less) (getD (a .forms .growth .distance) (a .s) 0) (distance-read (a .forms) fit (a .s) less)))))))
+    let less = start-less (a .forms) fit (a .t) (a .v) (a .s) (p .1 .0) in
+    (fit, (s .pre .1 .0, (circle-room (a .forms) fit (a .t) (a .v) (a .s) (p .1 .0) (p .1 .1) (getD (a .forms .growth .root) (a .s) 0) (root-read (a .forms) fit (a .s) less) (getD (a .forms .growth .distance) (a .s) 0) (distance-read (a .forms) fit (a .s) less) (a .most) (a .rows .now) (a .many) (a .drawn .now) (a .tops .now) (s .pre .1 .1 .0) (p .0), (p .0, (root-inside (a .forms) fit (a .t) (a .v) (a .s) (p .1 .0) (p .1 .1) (getD (a .forms .growth .root) (a .s) 0) (root-read (a .forms) fit (a .s) less) (getD (a .forms .growth .distance) (a .s) 0) (distance-read (a .forms) fit (a .s) less), (root-cyclic (a .forms) fit (a .t) (a .v) (a .s) (p .1 .0) (p .1 .1) (getD (a .forms .growth .root) (a .s) 0) (root-read (a .forms) fit (a .s) less) (getD (a .forms .growth .distance) (a .s) 0) (distance-read (a .forms) fit (a .s) less), root-back (a .forms) fit (a .t) (a .v) (a .s) (p .1 .0) (p .1 .1) (getD (a .forms .growth .root) (a .s) 0) (root-read (a .forms) fit (a .s) less) (getD (a .forms .growth .distance) (a .s) 0) (distance-read (a .forms) fit (a .s) less)))))))
 
 grown-row-requires : tie.Need-grown-row-requires
 grown-row-requires c κs =
@@ -39,9 +39,9 @@ grown-row-requires c κs =
     let a = s .args in
     let fit = s .pre .0 in
     let p = s .pre .1 .1 .1 in
-    let less = start-less (a .forms) fit (a .t) (a .v) (a .s) (p .1 .1 .0) in
+    let less = start-less (a .forms) fit (a .t) (a .v) (a .s) (p .1 .0) in
     let e = c .before .before .before .lapped-row in
-    (fit, (e .ensures .0 .store, (circled-room (a .forms) fit (a .t) (a .v) (a .s) (p .1 .1 .0) (p .1 .1 .1) (getD (a .forms .growth .root) (a .s) 0) (root-read (a .forms) fit (a .s) less) (getD (a .forms .growth .distance) (a .s) 0) (distance-read (a .forms) fit (a .s) less) (a .most) (p .1 .0) (a .rows .now) (a .many) (a .drawn .now) (a .tops .now) (s .pre .1 .1 .0) (p .0) (e .last .1 .0) (e .result .many) (e .last .1 .1 .0) (e .result .row) (e .ensures .0), (p .1 .1 .0, (distance-grows (a .forms) fit (a .t) (a .v) (a .s) (p .1 .1 .0) (p .1 .1 .1) (getD (a .forms .growth .root) (a .s) 0) (root-read (a .forms) fit (a .s) less) (getD (a .forms .growth .distance) (a .s) 0) (distance-read (a .forms) fit (a .s) less), (e .ensures .0 .there, circled-type (a .forms) fit (a .t) (a .v) (a .s) (p .1 .1 .0) (p .1 .1 .1) (getD (a .forms .growth .root) (a .s) 0) (root-read (a .forms) fit (a .s) less) (getD (a .forms .growth .distance) (a .s) 0) (distance-read (a .forms) fit (a .s) less) (a .most) (p .1 .0) (a .rows .now) (a .many) (a .drawn .now) (a .tops .now) (s .pre .1 .1 .0) (p .0) (e .last .1 .0) (e .result .many) (e .last .1 .1 .0) (e .result .row) (e .ensures .0)))))))
+    (fit, (e .ensures .0 .store, (circled-room (a .forms) fit (a .t) (a .v) (a .s) (p .1 .0) (p .1 .1) (getD (a .forms .growth .root) (a .s) 0) (root-read (a .forms) fit (a .s) less) (getD (a .forms .growth .distance) (a .s) 0) (distance-read (a .forms) fit (a .s) less) (a .most) (a .rows .now) (a .many) (a .drawn .now) (a .tops .now) (s .pre .1 .1 .0) (p .0) (e .last .1 .0) (e .result .many) (e .last .1 .1 .0) (e .result .row) (e .ensures .0), (p .1 .0, (distance-grows (a .forms) fit (a .t) (a .v) (a .s) (p .1 .0) (p .1 .1) (getD (a .forms .growth .root) (a .s) 0) (root-read (a .forms) fit (a .s) less) (getD (a .forms .growth .distance) (a .s) 0) (distance-read (a .forms) fit (a .s) less), (e .ensures .0 .there, circled-type (a .forms) fit (a .t) (a .v) (a .s) (p .1 .0) (p .1 .1) (getD (a .forms .growth .root) (a .s) 0) (root-read (a .forms) fit (a .s) less) (getD (a .forms .growth .distance) (a .s) 0) (distance-read (a .forms) fit (a .s) less) (a .most) (a .rows .now) (a .many) (a .drawn .now) (a .tops .now) (s .pre .1 .1 .0) (p .0) (e .last .1 .0) (e .result .many) (e .last .1 .1 .0) (e .result .row) (e .ensures .0)))))))
 
 same-length : tie.Need-same-length
 same-length c = search needs
@@ -52,10 +52,10 @@ returns c =
     let a = s .args in
     let fit = s .pre .0 in
     let p = s .pre .1 .1 .1 in
-    let less = start-less (a .forms) fit (a .t) (a .v) (a .s) (p .1 .1 .0) in
+    let less = start-less (a .forms) fit (a .t) (a .v) (a .s) (p .1 .0) in
     let e = c .before .before .before .before .before .lapped-row in
     let g = c .before .grown-row in
-    (circled-drew (a .forms) fit (a .t) (a .v) (a .s) (p .1 .1 .0) (p .1 .1 .1) (getD (a .forms .growth .root) (a .s) 0) (root-read (a .forms) fit (a .s) less) (getD (a .forms .growth .distance) (a .s) 0) (distance-read (a .forms) fit (a .s) less) (a .most) (p .1 .0) (a .rows .now) (a .many) (a .drawn .now) (a .tops .now) (s .pre .1 .1 .0) (p .0) (e .last .1 .0) (e .result .many) (e .last .1 .1 .0) (e .result .row) (e .ensures .0) (g .last .1 .0) (g .result .many) (g .last .1 .1 .0) (g .result .row) (g .ensures .0) (g .ensures .1), circled-noted (a .forms) fit (a .t) (a .v) (a .s) (p .1 .1 .0) (p .1 .1 .1) (getD (a .forms .growth .root) (a .s) 0) (root-read (a .forms) fit (a .s) less) (getD (a .forms .growth .distance) (a .s) 0) (distance-read (a .forms) fit (a .s) less) (a .most) (p .1 .0) (a .rows .now) (a .many) (a .drawn .now) (a .tops .now) (s .pre .1 .1 .0) (p .0) (e .last .1 .0) (e .result .many) (e .last .1 .1 .0) (e .result .row) (e .ensures .0) (g .last .1 .0) (g .result .many) (g .last .1 .1 .0) (g .result .row) (g .ensures .0) (g .ensures .1) (e .last .1 .1 .1 .0) (e .ensures .1))
+    (circled-drew (a .forms) fit (a .t) (a .v) (a .s) (p .1 .0) (p .1 .1) (getD (a .forms .growth .root) (a .s) 0) (root-read (a .forms) fit (a .s) less) (getD (a .forms .growth .distance) (a .s) 0) (distance-read (a .forms) fit (a .s) less) (a .most) (a .rows .now) (a .many) (a .drawn .now) (a .tops .now) (s .pre .1 .1 .0) (p .0) (e .last .1 .0) (e .result .many) (e .last .1 .1 .0) (e .result .row) (e .ensures .0) (g .last .1 .0) (g .result .many) (g .last .1 .1 .0) (g .result .row) (g .ensures .0) (g .ensures .1), circled-noted (a .forms) fit (a .t) (a .v) (a .s) (p .1 .0) (p .1 .1) (getD (a .forms .growth .root) (a .s) 0) (root-read (a .forms) fit (a .s) less) (getD (a .forms .growth .distance) (a .s) 0) (distance-read (a .forms) fit (a .s) less) (a .most) (a .rows .now) (a .many) (a .drawn .now) (a .tops .now) (s .pre .1 .1 .0) (p .0) (e .last .1 .0) (e .result .many) (e .last .1 .1 .0) (e .result .row) (e .ensures .0) (g .last .1 .0) (g .result .many) (g .last .1 .1 .0) (g .result .row) (g .ensures .0) (g .ensures .1) (e .last .1 .1 .1 .0) (e .ensures .1))
 
 pub circled-row-spec : {M : Type 1} → statement M
 circled-row-spec =

@@ -2,8 +2,11 @@
 use borrow.Author.Needs.{needs}
 use Rattle.chains.proofs.ended_row.Statement.{statement}
 use Rattle.chains.proofs.ended_row.Tie as tie
-use Rattle.chains.proofs.ChainLaws.{end-grows, end-room, end-store, end-there, end-type, ended-drew, start-less, steps-read}
-use lib.ListN.{getD}
+use Rattle.chains.proofs.ChainLaws.{end-grows, end-room, end-store, end-there, end-type, ended-drew, room-place, start-less, steps-read}
+use Prim.Native.Nat.{_*_, _-_}
+use native.Mathlib.Omega.{arith}
+use lib.ListN.{getD, length}
+use Rattle.forms.specs.Forms.{typesIn}
 use Rattle.forms.proofs.FormLaws.{type-small}
 use mathlib.Core.Path.{subst}
 use lib.IntN.{ℤ}
@@ -29,7 +32,10 @@ after-requires c κs =
     (fit, less)
 
 number-row-requires : tie.Need-number-row-requires
-number-row-requires c κs = search needs
+number-row-requires c κs =
+    let s = c .before .before .before .before in
+    let a = s .args in
+    room-place (a .rows .now) (a .many) (a .drawn .now) (3 * length (typesIn (a .forms)) - 1) (omega (arith, s .pre .1 .1 .1 .1)) (s .pre .1 .1 .0)
 
 grown-row-requires : tie.Need-grown-row-requires
 grown-row-requires c κs =

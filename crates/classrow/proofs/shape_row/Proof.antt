@@ -58,7 +58,7 @@ returns c =
     let k = c .before .before .before .before .before .before .before .before .before .before .before .before .less-word in
     let kind = k .result in
     let parts = three-parts (a .leaf .shapes) (a .leaf .classes) (a .at .now) (a .k) (c .before .before .before .before .before .before .before .before .before .part-row .ensures) (c .before .before .before .before .before .before .part-row2 .ensures) (c .before .before .before .part-row3 .ensures) in
-    shape-drawn (a .leaf) (a .at .now) (a .k) (s .pre .1 .0) (s .pre .0) (a .rows .now) (a .many) (d .result .row) _ _ (s .pre .1 .1 .1 .0) (s .pre .1 .1 .1 .1) kind (k .ensures)
+    shape-drawn (a .leaf) (a .at .now) (a .k) (s .pre .1 .0) (s .pre .0) (a .rows .now) (a .many) (d .result .row) _ _ (s .pre .1 .1 .1 .1) kind (k .ensures)
     (d .ensures .0 ∙ ap (λ (ps : List ℕ). rowFound (a .rows .now) 0 (a .many) (madeRow (kind / 16) (kind % 16) (map pos ps))) parts)
     (d .ensures .1 .0 ∙ ap (λ (ps : List ℕ). withRow (a .rows .now) (a .many) (d .result .row) (madeRow (kind / 16) (kind % 16) (map pos ps))) parts) (d .ensures .1 .1)
 

@@ -35,7 +35,7 @@ returns c =
     let s = c .before .before .before .before .before .before .before .before .before .before .before in
     let a = s .args in
     let d = c .before .made-row in
-    single-drawn (a .t1) (a .y) (a .rows .now) (a .many) (c .before .before .before .before .before .before .before .less .result) (c .before .before .before .lowest .result) (d .result .row) _ _ (s .pre .1 .1 .0) (s .pre .1 .1 .1) (c .before .before .before .before .before .before .before .less .ensures)
+    single-drawn (a .t1) (a .y) (a .rows .now) (a .many) (c .before .before .before .before .before .before .before .less .result) (c .before .before .before .lowest .result) (d .result .row) _ _ (s .pre .1 .1 .1) (c .before .before .before .before .before .before .before .less .ensures)
     (c .before .before .before .lowest .ensures ∙ ap lowestIn (c .before .before .before .before .label-of .ensures)) (d .ensures .0) (d .ensures .1 .0) (d .ensures .1 .1)
 
 pub single-row-spec : {M : Type 1} → statement M

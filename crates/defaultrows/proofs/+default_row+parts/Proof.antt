@@ -15,7 +15,7 @@ use Rattle.drawnrows.specs.Drawing.{Drew, Parted, Sparing, defaultSizes}
 use Rattle.forms.proofs.FormLaws.{fields-three, sort-inside, type-small}
 use Rattle.defaultrows.proofs.PartLaws.{part-smaller, parted-default, parted-given, parted-none, parted-room, sparing-next}
 use Rattle.defaultrows.proofs.DefaultRowLaws.{default-known, known-most}
-use Rattle.defaultrows.proofs.DefaultForms.{default-given, default-inside, is-number, made-default, made-few, made-long, made-sparing, not-number, number-default, number-sparing, parted-low, parts-smaller, room-here}
+use Rattle.defaultrows.proofs.DefaultForms.{default-given, default-inside, is-number, made-default, made-room, made-sparing, not-number, number-default, number-sparing, parted-low, parts-smaller, room-here}
 use Rattle.defaultrows.proofs.default_row.Reads as default-row
 use Rattle.defaultrows.proofs.default_row.Kinds as default-row-kinds
 use Rattle.defaultrows.proofs.+default_row+parts.Lts-default_row as default-row-lts
@@ -143,7 +143,7 @@ default-row-number-row-requires t c κs =
     let f = a .t1 in
     let fit = s .pre .1 .0 in
     let h = s .pre .1 .1 .1 .1 in
-    (room-here f fit (a .t) h (a .rows .now) (a .many) (a .drawn .now) (s .pre .1 .1 .0) (s .pre .1 .1 .1 .0) (blank t (c .before .before .before .before)), s .pre .1 .1 .1 .0 .long)
+    room-here f fit (a .t) h (a .rows .now) (a .many) (a .drawn .now) (s .pre .1 .1 .0) (s .pre .1 .1 .1 .0) (blank t (c .before .before .before .before))
 
 default-row-returns-2 : (t : ℕ) → default-row-lts.Need-returns-2 (default-calls t) (default-row-at t) default-row.Post
 default-row-returns-2 t c =
@@ -173,8 +173,8 @@ default-row-made-row-requires t c κs =
     let fit = s .pre .1 .0 in
     let h = s .pre .1 .1 .1 .1 in
     let y = c .before .before .before .parts in
-    let few = made-few f fit (a .t) h (a .rows .now) (a .many) (a .drawn .now) (s .pre .1 .1 .0) (s .pre .1 .1 .1 .0) (blank t (c .before .before .before .before .before .before .before .before .before .before)) (no-number t (c .before .before .before .before .before .before .before)) (y .result .rows) (y .last .1 .0) (y .result .many) (y .last .1 .1 .0) (y .ensures .0) (y .ensures .1) in
-    (few, (made-long f fit (a .t) h (a .rows .now) (a .many) (a .drawn .now) (s .pre .1 .1 .0) (s .pre .1 .1 .1 .0) (blank t (c .before .before .before .before .before .before .before .before .before .before)) (no-number t (c .before .before .before .before .before .before .before)) (y .result .rows) (y .last .1 .0) (y .result .many) (y .last .1 .1 .0) (y .ensures .0) (y .ensures .1), parted-low _ _ _ _ _ _ _ _ _ _ _ _ (y .ensures .0) few))
+    let room = made-room f fit (a .t) h (a .rows .now) (a .many) (a .drawn .now) (s .pre .1 .1 .0) (s .pre .1 .1 .1 .0) (blank t (c .before .before .before .before .before .before .before .before .before .before)) (no-number t (c .before .before .before .before .before .before .before)) (y .result .rows) (y .last .1 .0) (y .result .many) (y .last .1 .1 .0) (y .ensures .0) (y .ensures .1) in
+    (room .0, (room .1, parted-low _ _ _ _ _ _ _ _ _ _ _ _ (y .ensures .0) (room .0)))
 
 default-row-returns-3 : (t : ℕ) → default-row-lts.Need-returns-3 (default-calls t) (default-row-at t) default-row.Post
 default-row-returns-3 t c =

@@ -1,6 +1,8 @@
 -- `answer`: an answer of `decide` shows at most 4,096 rows. Assumes nothing.
 use borrow.Author.Needs.{needs}
-use Rattle.decide.proofs.Corollaries.{few-rows}
+use Rattle.guard.specs.Limits.{base}
+use Rattle.guard.proofs.Claims.{base-supported}
+use Rattle.decidewithin.proofs.Corollaries.{few-rows}
 use Rattle.deskvectors.proofs.answer.Statement.{statement}
 use Rattle.deskvectors.proofs.answer.Tie as tie
 
@@ -14,7 +16,7 @@ decide-requires : tie.Need-decide-requires
 decide-requires c κs = search needs
 
 print-answer-requires : tie.Need-print-answer-requires
-print-answer-requires c κs = few-rows _ _ _ _ _ _ _ (c .before .before .before .before .decide .ensures)
+print-answer-requires c κs = few-rows base base-supported _ _ _ _ _ _ _ (c .before .before .before .before .decide .ensures)
 
 check-rest-requires : tie.Need-check-rest-requires
 check-rest-requires c κs = search needs

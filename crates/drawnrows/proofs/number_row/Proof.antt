@@ -27,7 +27,7 @@ returns c =
     let value = toZ-ofZ (s .fits .z) in
     let numbers = number-numbers (a .t) (a .z) (w .result .low) (w .result .high) (s .fits .t .fits) low high (w .ensures .0 ∙ ap lowOf value) (w .ensures .1 ∙ ap highOf value) in
     let (is, with-it, many) = handed (a .rows .now) 0 (a .many) _ (numberRow (a .t) (a .z)) (found .result) (found .last .0) (d .result .row) (d .result .many) numbers (found .ensures .0) (found .ensures .1) (d .ensures .0) (d .ensures .1) in
-    number-drew (a .rows .now) (a .many) (a .t) (a .z) (d .result .row) (found .last .0) (d .result .many) (s .pre .0) (s .pre .1) is with-it many
+    number-drew (a .rows .now) (a .many) (a .t) (a .z) (d .result .row) (found .last .0) (d .result .many) (s .pre .1) is with-it many
 
 pub number-row-spec : {M : Type 1} → statement M
 number-row-spec =

@@ -2,7 +2,7 @@
 use borrow.Author.Needs.{needs}
 use Rattle.freerows.proofs.draw_free.Statement.{statement}
 use Rattle.freerows.proofs.draw_free.Tie as tie
-use Rattle.freerows.proofs.StageLaws.{highest-low, stage-next, stage-now}
+use Rattle.freerows.proofs.StageLaws.{stage-low, stage-next, stage-now}
 use mathlib.Core.Path.{sym, subst}
 use Prim.Native.Nat.{ℕ, suc}
 use native.Mathlib.Omega.{arith}
@@ -18,7 +18,7 @@ free-row-requires c κs =
     let a = s .args in
     let ts = typesIn (a .forms) in
     let p = s .pre .1 .1 .1 in
-    (s .pre .1 .1 .0, stage-now (openState ts (a .leaf)) (a .c) (s .pre .0) (a .at .now) (a .rows .now) (a .many) (a .drawn .now) (a .tops .now) (a .last) (p .1 .1 .0) (p .1 .1 .1) (p .0) (a .most) (p .1 .0) (highest-low ts (a .leaf) (s .pre .1 .0) (a .most) (p .1 .0)))
+    (s .pre .1 .1 .0, stage-now (openState ts (a .leaf)) (a .c) (s .pre .0) (a .at .now) (a .rows .now) (a .many) (a .drawn .now) (a .tops .now) (a .last) (p .1 .1 .0) (p .1 .1 .1) (p .0) (a .most) (p .1 .0))
 
 add-at : tie.Need-add-at
 add-at c = search needs
@@ -26,8 +26,10 @@ add-at c = search needs
 cast-at : tie.Need-cast-at
 cast-at c =
     let s = c .before .before .before .before .before .before in
-    let d = c .before .before .free-row .ensures .drew in
-    record { fits = omega (arith, s .pre .0, s .pre .1 .1 .1 .1 .1 .0 .room, d .there, d .cost) }
+    let a = s .args in
+    let p = s .pre .1 .1 .1 .1 .1 in
+    let d = c .before .before .free-row in
+    record { fits = omega (arith, stage-low (openState (typesIn (a .forms)) (a .leaf)) (a .c) (s .pre .0) (a .at .now) (a .rows .now) (a .many) (a .drawn .now) (a .tops .now) (a .last) (p .0) (p .1) (d .last .1 .1 .0) (d .result .many) (d .last .1 .1 .1 .0) (d .last .1 .1 .1 .1 .0) (d .result .last) (d .result .row) (d .ensures)) }
 
 mul-at : tie.Need-mul-at
 mul-at c = search needs

@@ -4,7 +4,9 @@ use Rattle.freerows.proofs.ended_planned.Statement.{statement}
 use Rattle.freerows.proofs.ended_planned.Tie as tie
 use Rattle.freerows.proofs.FreeLaws.{fresh-fits, fresh-number}
 use mathlib.Core.Path.{_≡_, subst}
+use Prim.Native.Nat.{_*_, _-_}
 use lib.IntN.{ℤ, pos}
+use lib.ListN.{length}
 use mir.Syntax.{w64}
 use mir.Val.{toZ}
 use Rattle.growth.proofs.Growth.{chosenType, stepsToNumber}
@@ -38,7 +40,7 @@ returns c =
     let d = c .before .ended-row in
     let ts = typesIn (a .forms) in
     let same : toZ w64 (z .result) ≡ pos (z .result) = fresh-number (a .leaf .constants) (a .leaf .values) (a .last) (z .result) (s .pre .1 .1 .1 .0) (z .ensures) in
-    (z .ensures, subst (λ (y : ℤ). Drew ts (a .rows .now) (a .many) (a .drawn .now) 50 (plannedMessage ts (a .t) (into (a .v) (stepsToNumber ts (chosenType ts (a .t) (a .v))) y)) (d .last .1 .0) (d .result .many) (d .last .1 .1 .0) (d .result .row)) same (d .ensures))
+    (z .ensures, subst (λ (y : ℤ). Drew ts (a .rows .now) (a .many) (a .drawn .now) (3 * length ts - 1) (plannedMessage ts (a .t) (into (a .v) (stepsToNumber ts (chosenType ts (a .t) (a .v))) y)) (d .last .1 .0) (d .result .many) (d .last .1 .1 .0) (d .result .row)) same (d .ensures))
 
 pub ended-planned-spec : {M : Type 1} → statement M
 ended-planned-spec =

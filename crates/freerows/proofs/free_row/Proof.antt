@@ -3,6 +3,8 @@ use borrow.Author.Needs.{needs}
 use Rattle.freerows.proofs.free_row.Statement.{statement}
 use Rattle.freerows.proofs.free_row.Tie as tie
 use Rattle.freerows.proofs.FreeLaws.{last-low, number-free, read-number, read-variants, type-known}
+use Rattle.chains.proofs.ChainLaws.{room-place}
+use Rattle.drawnrows.specs.Drawing.{growthRows}
 use Rattle.forms.specs.Forms.{typesIn}
 use Rattle.forms.proofs.FormLaws.{type-small}
 use Rattle.leaf.specs.Leaf.{openState}
@@ -25,7 +27,8 @@ number-planned-requires : tie.Need-number-planned-requires
 number-planned-requires c κs =
     let s = c .before .before .before .before .before in
     let a = s .args in
-    (omega (arith, s .pre .1 .room .few), (s .pre .1 .room .long, last-low (openState (typesIn (a .forms)) (a .leaf)) (a .c) (a .last) (s .pre .1 .small) (s .pre .1 .fresh)))
+    let place = room-place (a .rows .now) (a .many) (a .drawn .now) (growthRows (typesIn (a .forms)) (a .most)) (omega (arith, s .pre .1 .fits .known)) (s .pre .1 .room) in
+    (place .0, (place .1, last-low (openState (typesIn (a .forms)) (a .leaf)) (a .c) (a .last) (s .pre .1 .small) (s .pre .1 .fresh)))
 
 same-length : tie.Need-same-length
 same-length c = search needs

@@ -3,7 +3,10 @@ use borrow.Author.Needs.{needs}
 use Rattle.freerows.proofs.variant_planned.Statement.{statement}
 use Rattle.freerows.proofs.variant_planned.Tie as tie
 use Rattle.freerows.proofs.FreeLaws.{circled-free, class-starts, ended-free, last-low, tops-typed, type-known, variant-fits, variant-wide}
-use Rattle.chains.proofs.ChainLaws.{start-less, steps-most, steps-read}
+use Rattle.chains.proofs.ChainLaws.{room-less, start-less, steps-most, steps-read}
+use Rattle.drawnrows.specs.Drawing.{growthRows}
+use Prim.Native.Nat.{_*_, _-_}
+use lib.ListN.{length}
 use Rattle.forms.specs.Forms.{typesIn}
 use Rattle.forms.proofs.FormLaws.{type-small}
 use Rattle.leaf.specs.Leaf.{openState}
@@ -59,7 +62,7 @@ ended-planned-requires c κs =
     let n = s .pre .1 .0 in
     let v = c .before .before .before .before .before .before .variant-for in
     let w = c .before .before .before .before .before .start in
-    (s .pre .0, (n .store, (n .room, (last-low (openState (typesIn (a .forms)) (a .t1)) (a .c) (a .last) (n .small) (n .fresh), (class-starts (a .forms) (s .pre .0) (a .t1) (a .c) (n .fits) (a .t) (s .pre .1 .1 .0) (s .pre .1 .1 .1) (v .result) (v .ensures) (w .result) (w .ensures), omega (arith, (steps-read (a .forms) (s .pre .0) (w .result) (start-less (a .forms) (s .pre .0) (a .t) (v .result) (w .result) (class-starts (a .forms) (s .pre .0) (a .t1) (a .c) (n .fits) (a .t) (s .pre .1 .1 .0) (s .pre .1 .1 .1) (v .result) (v .ensures) (w .result) (w .ensures)))), held-many (a .forms .table), c .before .before .if1 .taken))))))
+    (s .pre .0, (n .store, (room-less (a .rows .now) (a .many) (a .drawn .now) (growthRows (typesIn (a .forms)) (a .most)) (3 * length (typesIn (a .forms)) - 1) (omega arith) (n .room), (last-low (openState (typesIn (a .forms)) (a .t1)) (a .c) (a .last) (n .small) (n .fresh), (class-starts (a .forms) (s .pre .0) (a .t1) (a .c) (n .fits) (a .t) (s .pre .1 .1 .0) (s .pre .1 .1 .1) (v .result) (v .ensures) (w .result) (w .ensures), omega (arith, (steps-read (a .forms) (s .pre .0) (w .result) (start-less (a .forms) (s .pre .0) (a .t) (v .result) (w .result) (class-starts (a .forms) (s .pre .0) (a .t1) (a .c) (n .fits) (a .t) (s .pre .1 .1 .0) (s .pre .1 .1 .1) (v .result) (v .ensures) (w .result) (w .ensures)))), held-many (a .forms .table), c .before .before .if1 .taken))))))
 
 same-length : tie.Need-same-length
 same-length c = search needs
@@ -81,7 +84,7 @@ circled-row-requires c κs =
     let n = s .pre .1 .0 in
     let v = c .before .before .before .before .before .before .before .variant-for in
     let w = c .before .before .before .before .before .before .start in
-    (s .pre .0, (n .store, (n .room, (tops-typed (a .forms) (s .pre .0) (a .t1) (a .c) (a .rows .now) (a .many) (a .tops .now) (n .chains), (n .low, (class-starts (a .forms) (s .pre .0) (a .t1) (a .c) (n .fits) (a .t) (s .pre .1 .1 .0) (s .pre .1 .1 .1) (v .result) (v .ensures) (w .result) (w .ensures), omega (arith, (steps-read (a .forms) (s .pre .0) (w .result) (start-less (a .forms) (s .pre .0) (a .t) (v .result) (w .result) (class-starts (a .forms) (s .pre .0) (a .t1) (a .c) (n .fits) (a .t) (s .pre .1 .1 .0) (s .pre .1 .1 .1) (v .result) (v .ensures) (w .result) (w .ensures)))), held-many (a .forms .table), c .before .before .before .if1 .left)))))))
+    (s .pre .0, (n .store, (n .room, (tops-typed (a .forms) (s .pre .0) (a .t1) (a .c) (a .rows .now) (a .many) (a .tops .now) (n .chains), (class-starts (a .forms) (s .pre .0) (a .t1) (a .c) (n .fits) (a .t) (s .pre .1 .1 .0) (s .pre .1 .1 .1) (v .result) (v .ensures) (w .result) (w .ensures), omega (arith, (steps-read (a .forms) (s .pre .0) (w .result) (start-less (a .forms) (s .pre .0) (a .t) (v .result) (w .result) (class-starts (a .forms) (s .pre .0) (a .t1) (a .c) (n .fits) (a .t) (s .pre .1 .1 .0) (s .pre .1 .1 .1) (v .result) (v .ensures) (w .result) (w .ensures)))), held-many (a .forms .table), c .before .before .before .if1 .left))))))
 
 same-length-2 : tie.Need-same-length-2
 same-length-2 c = search needs

@@ -1,6 +1,8 @@
 -- `answer`: an answer of `decide` shows at most 4,096 rows. Assumes nothing.
 use borrow.Author.Needs.{needs}
-use Rattle.decide.proofs.Corollaries.{few-rows}
+use Rattle.guard.specs.Limits.{base}
+use Rattle.guard.proofs.Claims.{base-supported}
+use Rattle.decidewithin.proofs.Corollaries.{few-rows}
 use Rattle.guarddesk.proofs.answer.Statement.{statement}
 use Rattle.guarddesk.proofs.answer.Tie as tie
 
@@ -20,7 +22,7 @@ slice-aggregate-print-answer-2 : tie.Need-slice-aggregate-print-answer-2
 slice-aggregate-print-answer-2 c = search needs
 
 print-answer-requires : tie.Need-print-answer-requires
-print-answer-requires c κs = few-rows _ _ _ _ _ _ _ (c .before .before .before .before .decide .ensures)
+print-answer-requires c κs = few-rows base base-supported _ _ _ _ _ _ _ (c .before .before .before .before .decide .ensures)
 
 returns : tie.Need-returns
 returns c = search needs

@@ -7,7 +7,7 @@ use Prim.Native.Nat.{ℕ}
 use lib.ListN.{getD}
 use mir.Syntax.{w16}
 use mir.Val.{Fits}
-use Rattle.messages.proofs.CallLaws.{call-draws, few-terms, forms-fit, free-fits, leaf-drawable, many-terms, rows-low, types-range, types-same}
+use Rattle.messages.proofs.CallLaws.{call-draws, few-terms, forms-fit, free-fits, leaf-drawable, many-terms, many-types, rows-low, rows-room, types-range, types-same}
 use Rattle.messages.proofs.OpenLaws.{leaf-fits}
 use Rattle.freerows.proofs.StageLaws.{blank-zeros}
 use Rattle.messages.specs.Messages.{DrawsFor}
@@ -35,7 +35,7 @@ draw-rows-requires c κs =
     let small = labels-small (a .classes .now) (a .labels .now) (l .result .labels) (is .labels) (fits-here (c .before .before .before .before .before)) in
     let gr = c .before .before .growth-of in
     let same = types-same (a .tables) (t .guard) (t .accepted) (t .is) (gr .result) (gr .ensures) in
-    (leaf-fits (t .guard) (t .accepted) st (t .leaf) held small (l .result) is, (forms-fit (a .tables) (t .guard) (t .accepted) (t .is) (gr .result) (gr .ensures), (free-fits (t .guard) (t .accepted) st (t .leaf) held small (l .result) is _ same, (leaf-drawable (t .guard) (t .accepted) st (t .leaf) held small (l .result) is _ same, (blank-zeros, s .pre .1 .1 .1 .0)))))
+    (leaf-fits (t .guard) (t .accepted) st (t .leaf) held small (l .result) is, (forms-fit (a .tables) (t .guard) (t .accepted) (t .is) (gr .result) (gr .ensures), (free-fits (t .guard) (t .accepted) st (t .leaf) held small (l .result) is _ same, (leaf-drawable (t .guard) (t .accepted) st (t .leaf) held small (l .result) is _ same, (blank-zeros, rows-room (t .guard) (t .accepted) st (t .leaf) held small (l .result) is _ same (a .tables .types .many) (a .tables .rows .many) (a .rows .now) (many-types (a .tables) (t .guard) (t .accepted) (t .is)) (many-terms (a .tables) (t .guard) (t .accepted) (t .is)) (s .pre .1 .1 .1 .0))))))
 
 set-places-requires : tie.Need-set-places-requires
 set-places-requires c κs =

@@ -1,5 +1,5 @@
 -- `answer_open`: what is drawn lies within the buffers, and shows messages once the rest is cleared. Assumes nothing.
-use Prim.Native.Nat.{_≤_}
+use Prim.Native.Nat.{_*_, _≤_}
 use native.Mathlib.Omega.{arith}
 use lib.ListN.{length}
 use borrow.Author.Needs.{needs}
@@ -9,15 +9,15 @@ use Rattle.openanswer.proofs.answer_open.Statement.{statement}
 use Rattle.openanswer.proofs.answer_open.Tie as tie
 
 draw-requires : tie.Need-draw-requires
-draw-requires c κs = let start = c .before .before in (start .pre .0, (start .pre .1 .0, (start .pre .1 .1 .0, (start .pre .1 .1 .1 .0, start .pre .1 .1 .1 .1))))
+draw-requires c κs = let start = c .before .before in (start .pre .0, (start .pre .1 .0, (start .pre .1 .1 .0, start .pre .1 .1 .1)))
 
 -- what is drawn, by the place after the call
 fits : (c : tie.After-draw)
-    → (c .draw .result ≤ 4096) × (c .before .before .before .args .tables .rows .many ≤ 24) × (16384 ≤ length (c .draw .last .1 .1 .1 .1 .0)) × (24 ≤ length (c .draw .last .1 .1 .1 .1 .1 .0))
+    → (c .draw .result ≤ 4096) × (c .before .before .before .args .tables .rows .many ≤ 24) × (4 * c .draw .result ≤ length (c .draw .last .1 .1 .1 .1 .0)) × (c .before .before .before .args .tables .rows .many ≤ length (c .draw .last .1 .1 .1 .1 .1 .0))
 fits c =
     let start = c .before .before .before in
     let drawn = c .draw in
-    drawn-fits (start .args .tables) (state (start .args .classes .now) (start .args .labels .now)) (start .args .rows .now) (start .args .places .now) (drawn .result) (drawn .last .1 .1 .1 .1 .0) (drawn .last .1 .1 .1 .1 .1 .0) (drawn .ensures) (start .pre .0) (start .pre .1 .1 .1 .0) (start .pre .1 .1 .1 .1)
+    drawn-fits (start .args .tables) (state (start .args .classes .now) (start .args .labels .now)) (start .args .rows .now) (start .args .places .now) (drawn .result) (drawn .last .1 .1 .1 .1 .0) (drawn .last .1 .1 .1 .1 .1 .0) (drawn .ensures) (start .pre .0) (start .pre .1 .1 .1)
 
 mul-last : tie.Need-mul-last
 mul-last c = omega (arith, fits (c .before .before))
@@ -65,7 +65,7 @@ returns : tie.Need-returns
 returns c =
     let start = c .before .before .before .before .before .before .before .before .before .before .before .before in
     let drawn = c .before .before .before .before .before .before .before .before .before .draw in
-    open-answered (start .args .tables) (state (start .args .classes .now) (start .args .labels .now)) (start .args .rows .now) (start .args .places .now) (drawn .result) (drawn .last .1 .1 .1 .1 .0) (drawn .last .1 .1 .1 .1 .1 .0) (drawn .ensures) (start .pre .0) (start .pre .1 .1 .1 .0) (start .pre .1 .1 .1 .1) (record { nodes = start .args .nodes; first = start .args .first; second = start .args .second })
+    open-answered (start .args .tables) (state (start .args .classes .now) (start .args .labels .now)) (start .args .rows .now) (start .args .places .now) (drawn .result) (drawn .last .1 .1 .1 .1 .0) (drawn .last .1 .1 .1 .1 .1 .0) (drawn .ensures) (start .pre .0) (start .pre .1 .1 .1) (record { nodes = start .args .nodes; first = start .args .first; second = start .args .second })
     (c .before .before .before .before .before .clear .last .0) (c .before .clear2 .last .0) (c .before .before .before .before .before .clear .ensures) (c .before .clear2 .ensures)
 
 pub answer-open-spec : {M : Type 1} → statement M

@@ -25,7 +25,7 @@ answer-open-requires c κs =
     let start = c .before .before .before .before .before .before .before .before .before .before .before .before in
     let found = c .before .before .before .before .before .before .before .before .search-guard in
     let made = c .before .before .before .before .before .before .before .before .before .before .before .problem-of in
-    (open-tables (start .args .tables) (start .args .budget) (found .result) (found .last .1 .1 .1 .0) (found .last .1 .1 .1 .1 .0) (found .ensures .0) (start .pre .0) (c .before .before .before .before .before .before .o .given .0 .0) (c .before .before .before .before .before .before .o .given .1), (made .ensures, (found .ensures .1 .1, (start .pre .1 .0, start .pre .1 .1))))
+    (open-tables (start .args .tables) (start .args .budget) (found .result) (found .last .1 .1 .1 .0) (found .last .1 .1 .1 .1 .0) (found .ensures .0) (start .pre .0) (c .before .before .before .before .before .before .o .given .0 .0) (c .before .before .before .before .before .before .o .given .1), (made .ensures, (found .ensures .1 .1, start .pre .1)))
 
 enum-known-o-2 : tie.Need-enum-known-o-2
 enum-known-o-2 c = search needs

@@ -1,4 +1,4 @@
--- What the contract of `decide` says of an accepted file: SPENT exactly below the node count, the node count in every
+-- What the contract says of an accepted file, for any limits: SPENT exactly below the node count, the node count in every
 -- verdict, at most 2 × W − 1 of them, and a verdict that is true. Each follows from the contract alone. Assumes nothing.
 use mathlib.Core.Path.{_≡_, refl, ap, sym, subst, _∙_}
 use mathlib.Core.List.{List}
@@ -9,7 +9,7 @@ use lib.IntN.{ℤ}
 use lib.ListN.{length, take}
 use Rattle.guard.specs.Answer.{Outcome.refusal, Outcome.sat, Outcome.spent, Outcome.unsat, afterQuestions, cutOff, outcome, outcomeOf, questions, rowsOf, verdict, withBudget}
 use Rattle.guard.specs.Guard.{Guard}
-use Rattle.guard.specs.Limits.{base}
+use Rattle.guard.specs.Limits.{Limits, Supported}
 use Rattle.guard.specs.Meaning.{Satisfiable}
 use Rattle.guard.specs.Number.{Parsed, Parsed.accepted, Parsed.refused}
 use Rattle.guard.specs.Search.{Counts, Visits, Visits.closed, Visits.opened, W, countsOf, nodeCount, searchOf, visited}
@@ -18,41 +18,41 @@ use Rattle.guard.specs.declared.Answer.{Answer}
 use Rattle.guard.specs.declared.Answer.the-variants.{Refused, Sat, Unsat, Spent}
 use Rattle.guard.proofs.AnswerLaws.{cut-nodes, enough, spent-exactly, too-few}
 use Rattle.guard.proofs.SearchLaws.{closed-twice}
-use Rattle.guard.proofs.Claims.{Accepts, accepts-all, base-supported}
+use Rattle.guard.proofs.Claims.{Accepts, accepts-all}
 use Rattle.theory.proofs.Theorems.{count-at-most, open-exactly}
-use Rattle.decide.specs.Decides.{Decides}
-use Rattle.decide.proofs.Decided.{never-refused, questions-file, sat-opened, unsat-closed}
+use Rattle.decidewithin.specs.Decides.{Decides}
+use Rattle.decidewithin.proofs.Decided.{never-refused, questions-file, sat-opened, unsat-closed}
 
-module _ (bytes : List ℕ) (budget : ℕ) (rows places : List ℤ) (r : Answer) (rows′ places′ : List ℤ) (d : Decides base bytes budget rows places r rows′ places′) where
+module _ (limits : Limits) (sup : Supported limits) (bytes : List ℕ) (budget : ℕ) (rows places : List ℤ) (r : Answer) (rows′ places′ : List ℤ) (d : Decides limits bytes budget rows places r rows′ places′) where
   -- a refused call says the question, and the other way round
-  pub refused-exactly : (q : ℕ) → (outcomeOf r ≡ refusal q) ↔ (questions base bytes (length rows) (length places) ≡ refused q)
+  pub refused-exactly : (q : ℕ) → (outcomeOf r ≡ refusal q) ↔ (questions limits bytes (length rows) (length places) ≡ refused q)
   unfolding outcome
-  refused-exactly q = (λ e. go (questions base bytes (length rows) (length places)) refl (sym (d .says) ∙ e), λ e. d .says ∙ ap (afterQuestions budget) e)
+  refused-exactly q = (λ e. go (questions limits bytes (length rows) (length places)) refl (sym (d .says) ∙ e), λ e. d .says ∙ ap (afterQuestions budget) e)
     where
-      go : (p : Parsed Guard) → questions base bytes (length rows) (length places) ≡ p → afterQuestions budget p ≡ refusal q → questions base bytes (length rows) (length places) ≡ refused q
+      go : (p : Parsed Guard) → questions limits bytes (length rows) (length places) ≡ p → afterQuestions budget p ≡ refusal q → questions limits bytes (length rows) (length places) ≡ refused q
       go (refused k) e h = let s : k ≡ q = cc in e ∙ ap (λ (i : ℕ). refused i) s
       go (accepted g rest) e h = absurd (never-refused budget (searchOf g) q h)
 
-  -- "4,096 rows always suffice"
-  pub few-rows : rowsOf r ≤ 4096
+  -- "4,096 rows always suffice"; document 02, #110: "For these 1,024 rows always suffice."
+  pub few-rows : rowsOf r ≤ limits .rows
   unfolding outcome outcomeOf rowsOf
   few-rows = go r refl
     where
-      shown-few : (n f s k : ℕ) → r ≡ Sat n f s k → (p : Parsed Guard) → questions base bytes (length rows) (length places) ≡ p → afterQuestions budget p ≡ sat (record { nodes = n; first = f; second = s }) → k ≤ 4096
+      shown-few : (n f s k : ℕ) → r ≡ Sat n f s k → (p : Parsed Guard) → questions limits bytes (length rows) (length places) ≡ p → afterQuestions budget p ≡ sat (record { nodes = n; first = f; second = s }) → k ≤ limits .rows
       shown-few n f s k e (refused q) t h = let z : _≡_ {A = ℕ} 0 1 = cc in absurd (omega (arith, z))
       shown-few n f s k e (accepted g rest) t h = omega (arith, d .shown g rest t (record { nodes = n; first = f; second = s }) (ap outcomeOf e) .few, ap rowsOf e)
 
-      go : (a : Answer) → r ≡ a → rowsOf a ≤ 4096
+      go : (a : Answer) → r ≡ a → rowsOf a ≤ limits .rows
       go (Refused q) e = omega arith
-      go (Sat n f s k) e = shown-few n f s k e (questions base bytes (length rows) (length places)) refl (sym (d .says) ∙ ap outcomeOf e)
+      go (Sat n f s k) e = shown-few n f s k e (questions limits bytes (length rows) (length places)) refl (sym (d .says) ∙ ap outcomeOf e)
       go (Unsat n f s) e = omega arith
       go (Spent b f s) e = omega arith
 
   -- ---- an accepted file
 
-  module _ (g : Guard) (rest : List ℕ) (taken : questions base bytes (length rows) (length places) ≡ accepted g rest) where
-    accepts : Accepts base bytes g
-    accepts = accepts-all base bytes g rest base-supported (questions-file bytes (length rows) (length places) g rest taken)
+  module _ (g : Guard) (rest : List ℕ) (taken : questions limits bytes (length rows) (length places) ≡ accepted g rest) where
+    accepts : Accepts limits bytes g
+    accepts = accepts-all limits bytes g rest sup (questions-file limits bytes (length rows) (length places) g rest taken)
 
     answer-is : outcomeOf r ≡ withBudget budget (searchOf g)
     unfolding outcome
@@ -98,7 +98,7 @@ module _ (bytes : List ℕ) (budget : ℕ) (rows places : List ℤ) (r : Answer)
 
     -- "at most 2 × W − 1 nodes", so a budget of that many always brings a verdict
     pub count-at-most-twice-W : nodeCount g ≤ 2 * W g - 1
-    count-at-most-twice-W = count-at-most base bytes g accepts
+    count-at-most-twice-W = count-at-most limits bytes g accepts
 
     pub enough-budget : 2 * W g - 1 ≤ budget → outcomeOf r ≡ verdict (searchOf g)
     enough-budget h = verdict-from-count (omega (arith, count-at-most-twice-W))
@@ -110,7 +110,7 @@ module _ (bytes : List ℕ) (budget : ℕ) (rows places : List ℤ) (r : Answer)
 
     pub sat-exactly : nodeCount g ≤ budget → ((n : Counts) × (outcomeOf r ≡ sat n)) ↔ Satisfiable g
     sat-exactly h =
-        (λ p. sat-satisfiable (p .0) (p .1), λ s. let (xs, w) = open-exactly base bytes g accepts .1 s in (countsOf xs, verdict-from-count h ∙ ap verdict w))
+        (λ p. sat-satisfiable (p .0) (p .1), λ s. let (xs, w) = open-exactly limits bytes g accepts .1 s in (countsOf xs, verdict-from-count h ∙ ap verdict w))
 
     pub unsat-exactly : nodeCount g ≤ budget → ((n : Counts) × (outcomeOf r ≡ unsat n)) ↔ (¬ Satisfiable g)
     unsat-exactly h = (λ p. d .dead g rest taken (p .0) (p .1), λ dead. go (searchOf g) refl dead)
@@ -122,9 +122,9 @@ module _ (bytes : List ℕ) (budget : ℕ) (rows places : List ℤ) (r : Answer)
 -- "A file's node count and its walk's verdict belong to the file alone, not to the budget or the buffers": two calls on one
 -- accepted file, neither SPENT, say the same. Document 02, #105: "The rule about larger budgets now covers these counts after a
 -- verdict."
-pub same-verdict : (bytes : List ℕ) (g : Guard) (rest : List ℕ)
-    → (budget : ℕ) (rows places : List ℤ) (r : Answer) (rows′ places′ : List ℤ) → Decides base bytes budget rows places r rows′ places′ → questions base bytes (length rows) (length places) ≡ accepted g rest
-    → (budget₂ : ℕ) (rows₂ places₂ : List ℤ) (r₂ : Answer) (rows₂′ places₂′ : List ℤ) → Decides base bytes budget₂ rows₂ places₂ r₂ rows₂′ places₂′ → questions base bytes (length rows₂) (length places₂) ≡ accepted g rest
+pub same-verdict : (limits : Limits) → Supported limits → (bytes : List ℕ) (g : Guard) (rest : List ℕ)
+    → (budget : ℕ) (rows places : List ℤ) (r : Answer) (rows′ places′ : List ℤ) → Decides limits bytes budget rows places r rows′ places′ → questions limits bytes (length rows) (length places) ≡ accepted g rest
+    → (budget₂ : ℕ) (rows₂ places₂ : List ℤ) (r₂ : Answer) (rows₂′ places₂′ : List ℤ) → Decides limits bytes budget₂ rows₂ places₂ r₂ rows₂′ places₂′ → questions limits bytes (length rows₂) (length places₂) ≡ accepted g rest
     → nodeCount g ≤ budget → nodeCount g ≤ budget₂ → outcomeOf r ≡ outcomeOf r₂
-same-verdict bytes g rest budget rows places r rows′ places′ d q budget₂ rows₂ places₂ r₂ rows₂′ places₂′ d₂ q₂ h h₂ =
-    verdict-from-count bytes budget rows places r rows′ places′ d g rest q h ∙ sym (verdict-from-count bytes budget₂ rows₂ places₂ r₂ rows₂′ places₂′ d₂ g rest q₂ h₂)
+same-verdict limits sup bytes g rest budget rows places r rows′ places′ d q budget₂ rows₂ places₂ r₂ rows₂′ places₂′ d₂ q₂ h h₂ =
+    verdict-from-count limits sup bytes budget rows places r rows′ places′ d g rest q h ∙ sym (verdict-from-count limits sup bytes budget₂ rows₂ places₂ r₂ rows₂′ places₂′ d₂ g rest q₂ h₂)

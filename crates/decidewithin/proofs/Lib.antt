@@ -1,0 +1,3 @@
+pub mod Buffers
+pub mod Corollaries
+pub mod Decided

@@ -1,0 +1,2 @@
+pub mod CallerLimits
+pub mod Decides
