@@ -1,1 +1,3 @@
 pub mod Tree
+pub mod Rule
+pub mod OrderCases
