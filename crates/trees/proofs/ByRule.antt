@@ -21,6 +21,27 @@ use Rattle.trees.specs.Tree.{Finished, HasOpenLeaf, Permitted, Permitted
 use Rattle.trees.specs.Rule.{Chooses, MaySay, OnTree, Rule, numbered, openLeaf, openLeaves, permittedIn, pick, splitsOn, treeBy, treeTo}
 use Rattle.trees.proofs.Choices.{is-child, isnt-child, permitted-splits}
 
+-- ---- open leaves
+
+-- in a finished tree the leaves that aren't closed are the open ones
+pub open-counted : (g : Guard) (tree : Tree) (ds : List Literal) → Finished g ds tree → HasOpenLeaf g ds tree ↔ (0 < openLeaves g ds tree)
+open-counted g leaf ds (inl c) = (λ o. absurd (false≢true (sym (o .0) ∙ c)), λ h. absurd (omega (arith, h, ap openLeaf c)))
+open-counted g leaf ds (inr o) = (λ p. omega (arith, ap openLeaf (o .0)), λ h. o)
+open-counted g (branch d yes′ no′) ds f = go (open-counted g yes′ (is (d .term) (d .variant) ∷ ds) (f .2)) (open-counted g no′ (isnt (d .term) (d .variant) ∷ ds) (f .3))
+  where
+    go : HasOpenLeaf g (is (d .term) (d .variant) ∷ ds) yes′ ↔ (0 < openLeaves g (is (d .term) (d .variant) ∷ ds) yes′)
+        → HasOpenLeaf g (isnt (d .term) (d .variant) ∷ ds) no′ ↔ (0 < openLeaves g (isnt (d .term) (d .variant) ∷ ds) no′)
+        → HasOpenLeaf g ds (branch d yes′ no′) ↔ (0 < openLeaves g ds (branch d yes′ no′))
+    go y n = (there, λ h. back (openLeaves g (is (d .term) (d .variant) ∷ ds) yes′) refl h)
+      where
+        there : HasOpenLeaf g (is (d .term) (d .variant) ∷ ds) yes′ ⊎ HasOpenLeaf g (isnt (d .term) (d .variant) ∷ ds) no′ → 0 < openLeaves g ds (branch d yes′ no′)
+        there (inl o) = omega (arith, y .0 o)
+        there (inr o) = omega (arith, n .0 o)
+
+        back : (k : ℕ) → openLeaves g (is (d .term) (d .variant) ∷ ds) yes′ ≡ k → 0 < openLeaves g ds (branch d yes′ no′) → HasOpenLeaf g ds (branch d yes′ no′)
+        back zero q h = inr (n .1 (omega (arith, q, h)))
+        back (suc k) q h = inl (y .1 (omega (arith, q)))
+
 -- ---- the tree of a rule
 
 module _ (limits : Limits) (sup : Supported limits) (g : Guard) (ok : WellFormed limits g) (rule : Rule) (chooses : Chooses rule g) where
@@ -88,24 +109,3 @@ numbered-chooses n g ds o e = go (pick (n g ds) (permittedIn g (stateAt g ds))) 
     go : (c : Option Split) → pick (n g ds) (permittedIn g (stateAt g ds)) ≡ c → MaySay g ds c
     go (some d) q = permitted-listed g ds d .1 (pick-mem (n g ds) (permittedIn g (stateAt g ds)) d q)
     go none q = λ d p. List·Memᴰ·not-nil (subst (List·Memᴰ d) (picked (n g ds) (permittedIn g (stateAt g ds)) q) (permitted-listed g ds d .0 p))
-
--- ---- open leaves
-
--- in a finished tree the leaves that aren't closed are the open ones
-pub open-counted : (g : Guard) (tree : Tree) (ds : List Literal) → Finished g ds tree → HasOpenLeaf g ds tree ↔ (0 < openLeaves g ds tree)
-open-counted g leaf ds (inl c) = (λ o. absurd (false≢true (sym (o .0) ∙ c)), λ h. absurd (omega (arith, h, ap openLeaf c)))
-open-counted g leaf ds (inr o) = (λ p. omega (arith, ap openLeaf (o .0)), λ h. o)
-open-counted g (branch d yes′ no′) ds f = go (open-counted g yes′ (is (d .term) (d .variant) ∷ ds) (f .2)) (open-counted g no′ (isnt (d .term) (d .variant) ∷ ds) (f .3))
-  where
-    go : HasOpenLeaf g (is (d .term) (d .variant) ∷ ds) yes′ ↔ (0 < openLeaves g (is (d .term) (d .variant) ∷ ds) yes′)
-        → HasOpenLeaf g (isnt (d .term) (d .variant) ∷ ds) no′ ↔ (0 < openLeaves g (isnt (d .term) (d .variant) ∷ ds) no′)
-        → HasOpenLeaf g ds (branch d yes′ no′) ↔ (0 < openLeaves g ds (branch d yes′ no′))
-    go y n = (there, λ h. back (openLeaves g (is (d .term) (d .variant) ∷ ds) yes′) refl h)
-      where
-        there : HasOpenLeaf g (is (d .term) (d .variant) ∷ ds) yes′ ⊎ HasOpenLeaf g (isnt (d .term) (d .variant) ∷ ds) no′ → 0 < openLeaves g ds (branch d yes′ no′)
-        there (inl o) = omega (arith, y .0 o)
-        there (inr o) = omega (arith, n .0 o)
-
-        back : (k : ℕ) → openLeaves g (is (d .term) (d .variant) ∷ ds) yes′ ≡ k → 0 < openLeaves g ds (branch d yes′ no′) → HasOpenLeaf g ds (branch d yes′ no′)
-        back zero q h = inr (n .1 (omega (arith, q, h)))
-        back (suc k) q h = inl (y .1 (omega (arith, q)))

@@ -85,13 +85,10 @@ pick (suc n) (d ∷ e ∷ ds) = pick n (e ∷ ds)
 abbrev pub numbered : (Guard → List Literal → ℕ) → Rule
 numbered n g ds = pick (n g ds) (permittedIn g (stateAt g ds))
 
--- the first permitted split; the last one, so a split of the second kind wherever there is one, on the highest variant of the last
--- choice; and, one after the other on the way down, the first, the second, ..
-abbrev pub firstOf : Rule
-firstOf = numbered (λ g ds. 0)
-
+-- the last permitted split: of the second kind wherever there is one, on the highest variant of the last choice
 abbrev pub lastOf : Rule
 lastOf = numbered (λ g ds. length (permittedIn g (stateAt g ds)))
 
+-- the first at the root, the second below it, and so on
 abbrev pub byDepth : Rule
 byDepth = numbered (λ g ds. length ds)
