@@ -264,7 +264,7 @@ fn wishes_rule(list: &str) -> Result<Rule, Failure> {
 /// A tree in words.
 fn size_of(problem: &Problem, rule: Rule) -> String {
     match order::tree(problem, rule, MOST_NODES) {
-        Some(Size { nodes, open }) => format!("{nodes} nodes, {open} open leaves"),
+        Some(Size { nodes, open }) => format!("{nodes} nodes, {open} of them open"),
         None => format!("more than {MOST_NODES} nodes"),
     }
 }
