@@ -20,8 +20,8 @@ const H: &str = "010200000300000000000003010001010002010102";
 const TAILS: &str = "0200020002000104000103000101030101010302010101010003";
 const PAIRS: &str = "030002000002000200010400020002030001000301010002000203010001";
 
-/// The definitions compute the same for first, last and depth
-/// (`crates/trees/specs/OrderCases.antt`).
+/// The definitions compute ten of these trees, with the same sizes
+/// (`crates/theory/specs/OrderCases.antt`).
 #[test]
 fn trees_by_rules() {
     for (hex, nodes, open, most) in [

@@ -1,1 +1,2 @@
 pub mod AnyOrder
+pub mod OrderCases
