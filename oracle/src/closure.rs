@@ -13,7 +13,7 @@ pub struct Decision {
 }
 
 /// Equal terms and labels.
-#[derive(Clone, Debug)]
+#[derive(Clone, Debug, PartialEq, Eq, Hash)]
 pub struct Closure {
     /// The lowest term equal to each term: "equal is an equivalence".
     class: Vec<usize>,

@@ -1,10 +1,10 @@
 //! A second, separately written solver for guard files.
 //!
-//! It is written from document 01 and requests #101, #102, #104, #105, #107 and
-//! #110 of document 02 alone, and favours plain code over speed: the closure is
+//! It is written from document 01 and requests #101, #102, #104, #105, #107, #108
+//! and #110 of document 02 alone, and favours plain code over speed: the closure is
 //! saturated from scratch at every node of the search. It gives the expected
 //! answers of the test vectors, checks printed answers, writes guard files from
-//! lists of numbers, and merges two guard files.
+//! lists of numbers, merges two guard files, and searches in any order.
 //!
 //! Words: document 01's sister field is a sibling field here, a class that is
 //! a part of itself is a cycle, and "the walk" is the search.
@@ -16,6 +16,7 @@ pub mod guard;
 pub mod list;
 pub mod merge;
 pub mod number;
+pub mod order;
 pub mod problem;
 pub mod random;
 pub mod read;

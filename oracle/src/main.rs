@@ -9,6 +9,9 @@ use std::process::ExitCode;
 use oracle::answer::{answer, answer_to};
 use oracle::guard::{Guard, Limits};
 use oracle::merge::{self, Refusal};
+use oracle::order::{self, Rule, Size};
+use oracle::problem::Problem;
+use oracle::random::Random;
 use oracle::read::Question;
 use oracle::vectors::{self, lists, loads, merges, records, Vector, USUAL_BUDGET};
 use oracle::{list, read, record, smt, tables, text};
@@ -24,6 +27,14 @@ usage: oracle answer FILE [--budget N]        the answer to a guard file
                                               their values
        oracle write LIST                      the guard file of such numbers, in hexadecimal
        oracle merge FIRST SECOND              the two guards as one file, in hexadecimal
+       oracle orders FILE                     the whole search trees of a guard by other
+                                              orders of splitting: their nodes and open
+                                              leaves, and 2 x W - 1
+       oracle orders FILE --rule RULE         one of them: first, last, depth, most, fewest
+       oracle orders FILE --seed N            the tree of a random order
+       oracle orders FILE --wishes LIST       the tree that splits on the terms of LIST where
+                                              it can, as 3,0/1: on 3, else on 0, variant 1
+       oracle orders --check VECTORS          checks trees of the guards of vectors
        oracle vectors [--check] DIR           writes or checks DIR/vectors.txt
        oracle records [--check] DIR           writes or checks DIR/records.txt, with
                                               guards of DIR/vectors.txt
@@ -86,6 +97,11 @@ fn run(words: &[&str]) -> Result<(), Failure> {
         ["list", file] => list_command(file),
         ["write", list] => write_command(list),
         ["merge", first, second] => merge_command(first, second),
+        ["orders", "--check", vectors] => check_orders(vectors),
+        ["orders", file] => orders_command(file),
+        ["orders", file, "--rule", name] => order_command(file, named_rule(name)?),
+        ["orders", file, "--seed", seed] => order_command(file, seeded_rule(seed)?),
+        ["orders", file, "--wishes", list] => order_command(file, wishes_rule(list)?),
         ["vectors", "--check", dir] => check_kept(&VECTORS, dir),
         ["vectors", dir] => write_kept(&VECTORS, dir),
         ["records", "--check", dir] => check_kept(&RECORDS, dir),
@@ -233,6 +249,72 @@ fn merge_command(first: &str, second: &str) -> Result<(), Failure> {
         _ => Failure::Wrong(format!("the merge is REFUSED {}", refusal.number())),
     })?;
     print(&format!("{}\n", vectors::hex(&merged)))
+}
+
+/// Larger trees are given up.
+const MOST_NODES: u32 = 1_000_000;
+const MOST_CLOSURES: u32 = 100_000;
+
+fn named_rule(name: &str) -> Result<Rule, Failure> {
+    let mut rules = Rule::named().into_iter();
+    let rule = rules.find(|(known, _)| *known == name);
+    rule.map(|(_, rule)| rule).ok_or(Failure::Usage(format!(
+        "there is no rule {name:?}\n{USAGE}"
+    )))
+}
+
+fn seeded_rule(seed: &str) -> Result<Rule, Failure> {
+    let number = seed.parse().map(Random::new).map(Rule::Chance);
+    number.map_err(|_| Failure::Usage(format!("the seed {seed:?} isn't a number")))
+}
+
+fn wishes_rule(list: &str) -> Result<Rule, Failure> {
+    let why = format!("{list:?} isn't a list of terms, as 3,0/1");
+    Rule::wishes(list).ok_or(Failure::Usage(why))
+}
+
+/// A tree in words.
+fn size_of(problem: &Problem, rule: Rule) -> String {
+    match order::tree(problem, rule, MOST_NODES) {
+        Some(Size { nodes, open }) => format!("{nodes} nodes, {open} of them open"),
+        None => format!("more than {MOST_NODES} nodes"),
+    }
+}
+
+fn limit_of(problem: &Problem) -> String {
+    match order::most_nodes(problem) {
+        Some(most) => format!("2 x W - 1 is {most}\n"),
+        None => "2 x W - 1 is 2^128 or more\n".to_string(),
+    }
+}
+
+fn order_command(file: &str, rule: Rule) -> Result<(), Failure> {
+    let guard = load_guard(file)?;
+    let problem = Problem::new(&guard);
+    print(&format!(
+        "{}\n{}",
+        size_of(&problem, rule),
+        limit_of(&problem)
+    ))
+}
+
+fn orders_command(file: &str) -> Result<(), Failure> {
+    let guard = load_guard(file)?;
+    let problem = Problem::new(&guard);
+    let mut text = String::new();
+    for (name, rule) in Rule::named() {
+        text += &format!("{name}: {}\n", size_of(&problem, rule));
+    }
+    text += &match order::all_trees(&problem, MOST_CLOSURES) {
+        Some(trees) => format!("any order: {} to {} nodes\n", trees.fewest, trees.most),
+        None => "any order: too many to try\n".to_string(),
+    };
+    print(&(text + &limit_of(&problem)))
+}
+
+fn check_orders(path: &str) -> Result<(), Failure> {
+    let found = vectors::check_orders(&load_vectors(path)?).map_err(Failure::Wrong)?;
+    print(&format!("ok, {found}\n"))
 }
 
 /// A file of test data, which is made anew to be written or compared.

@@ -2,7 +2,7 @@
 
 use crate::closure::{Closure, Decision};
 use crate::guard::{Guard, Line};
-use crate::problem::{only, Problem};
+use crate::problem::{only, Problem, Read};
 
 /// Why a node is closed.
 #[derive(Clone, Copy, Debug, PartialEq, Eq)]
@@ -80,22 +80,53 @@ pub enum Split {
     Second { term: usize, variant: usize },
 }
 
+impl Split {
+    pub fn term(self) -> usize {
+        match self {
+            Split::First { term, .. } | Split::Second { term, .. } => term,
+        }
+    }
+
+    pub fn variant(self) -> usize {
+        match self {
+            Split::First { variant, .. } | Split::Second { variant, .. } => variant,
+        }
+    }
+
+    /// What one of the children adds: "is" or "isn't".
+    pub fn decision(self, is: bool) -> Decision {
+        Decision {
+            term: self.term(),
+            variant: self.variant(),
+            is,
+        }
+    }
+}
+
+/// The split of a "field row whose read term's label holds its variant and
+/// another one".
+pub fn first_kind(closure: &Closure, read: &Read) -> Option<Split> {
+    let (term, variant) = (read.whole.term, read.whole.variant);
+    let label = closure.label(term);
+    let holds_another = label & only(variant) != 0 && label != only(variant);
+    holds_another.then_some(Split::First { term, variant })
+}
+
+/// A "term whose label holds two or more variants, all fieldless".
+pub fn second_kind(problem: &Problem, closure: &Closure, term: usize, ty: usize) -> bool {
+    let label = closure.label(term);
+    label.count_ones() >= 2 && label & !problem.fieldless[ty] == 0
+}
+
 pub fn split(problem: &Problem, closure: &Closure) -> Option<Split> {
-    for read in &problem.reads {
-        let (term, variant) = (read.whole.term, read.whole.variant);
-        let label = closure.label(term);
-        if label & only(variant) != 0 && label != only(variant) {
-            return Some(Split::First { term, variant });
-        }
+    let mut first = problem.reads.iter();
+    if let Some(split) = first.find_map(|read| first_kind(closure, read)) {
+        return Some(split);
     }
-    for (term, ty) in problem.variant_terms() {
-        let label = closure.label(term);
-        if label.count_ones() >= 2 && label & !problem.fieldless[ty] == 0 {
-            let variant = label.trailing_zeros() as usize;
-            return Some(Split::Second { term, variant });
-        }
-    }
-    None
+    let mut terms = problem.variant_terms();
+    let (term, _) = terms.find(|&(term, ty)| second_kind(problem, closure, term, ty))?;
+    let variant = closure.label(term).trailing_zeros() as usize;
+    Some(Split::Second { term, variant })
 }
 
 /// How a search ended.
@@ -164,16 +195,16 @@ impl Search<'_> {
             self.tally.closed[reason as usize] += 1;
             return End::Closed;
         }
-        let splits = &mut self.tally.splits;
-        let (count, term, variant) = match split(&self.problem, &closure) {
-            None => return End::Open,
-            Some(Split::First { term, variant }) => (&mut splits.first, term, variant),
-            Some(Split::Second { term, variant }) => (&mut splits.second, term, variant),
+        let Some(split) = split(&self.problem, &closure) else {
+            return End::Open;
         };
         // Before the children: "those whose children the budget cut off included".
-        *count += 1;
+        match split {
+            Split::First { .. } => self.tally.splits.first += 1,
+            Split::Second { .. } => self.tally.splits.second += 1,
+        }
         for is in [true, false] {
-            self.decisions.push(Decision { term, variant, is });
+            self.decisions.push(split.decision(is));
             let end = self.visit();
             self.decisions.pop();
             if end != End::Closed {

@@ -79,7 +79,7 @@ fn checks_printed_answers() {
 
 #[test]
 fn wrong_use_is_said() {
-    let cases: [&[&str]; 36] = [
+    let cases: [&[&str]; 42] = [
         &[],
         &["nonsense"],
         &["answer"],
@@ -102,6 +102,12 @@ fn wrong_use_is_said() {
         &["merge", "-"],
         &["merge", "-", "-"],
         &["merge", "-", "no such file"],
+        &["orders"],
+        &["orders", "no such file"],
+        &["orders", "-", "--rule", "best"],
+        &["orders", "-", "--seed", "-1"],
+        &["orders", "-", "--wishes", "1/"],
+        &["orders", "--check", "no such file"],
         &["vectors", "--check", "no such directory"],
         &["records", "no such directory"],
         &["records", "--check", "no such directory"],
@@ -172,6 +178,33 @@ fn checks_records() {
         assert_eq!(output.status.code(), Some(1), "{record}");
         assert!(String::from_utf8_lossy(&output.stderr).contains(why));
     }
+}
+
+#[test]
+fn orders_of_splitting() {
+    let all = "first: 3 nodes, 1 of them open\nlast: 3 nodes, 1 of them open\n\
+               depth: 3 nodes, 1 of them open\nmost: 3 nodes, 1 of them open\n\
+               fewest: 3 nodes, 1 of them open\nany order: 3 to 3 nodes\n2 x W - 1 is 7\n";
+    let one = "3 nodes, 1 of them open\n2 x W - 1 is 7\n";
+    for (words, expected) in [
+        (&["orders", "-"][..], all),
+        (&["orders", "-", "--rule", "last"], one),
+        (&["orders", "-", "--seed", "5"], one),
+        (&["orders", "-", "--wishes", "0/1,1"], one),
+    ] {
+        assert_eq!(printed(&oracle(words, C)), expected);
+    }
+    let output = oracle(&["orders", "-"], &[7]);
+    assert_eq!(output.status.code(), Some(1));
+    assert!(String::from_utf8_lossy(&output.stderr).contains("the file is REFUSED 4"));
+    let vectors = "c\t3\t020002000200010200010300010101000001\tSAT 3 splits 1 0\n";
+    let output = oracle(&["orders", "--check", "-"], vectors.as_bytes());
+    assert!(printed(&output).starts_with("ok, 13 trees of 1 guards, all orders of 1,"));
+    let output = oracle(
+        &["orders", "--check", "-"],
+        vectors.replace("SAT", "UNSAT").as_bytes(),
+    );
+    assert_eq!(output.status.code(), Some(1));
 }
 
 #[test]

@@ -5,8 +5,9 @@ use std::fs;
 use std::path::Path;
 
 use oracle::answer::{answer, answer_to, Answer};
-use oracle::guard::{Limits, Row, VARIANTS_IN_ALL};
+use oracle::guard::{Limits, VARIANTS_IN_ALL};
 use oracle::list::LONGEST_FILE;
+use oracle::order::most_nodes;
 use oracle::problem::Problem;
 use oracle::read::read;
 use oracle::record;
@@ -91,10 +92,8 @@ fn searches_are_varied() {
     assert!(first >= 100 && second >= 100, "{total:?}");
 }
 
-/// "W is a product of variant counts: one factor for each variable of variant
-/// type, each field row of variant type, and each sister field of variant
-/// type." No search visits more than 2 × W − 1 nodes, and in a closed one
-/// every split has two visited children, so there is a leaf more than splits.
+/// No search visits more than 2 × W − 1 nodes, and in a closed one every split
+/// has two visited children, so there is a leaf more than splits.
 #[test]
 fn node_counts_obey_their_laws() {
     for vector in kept() {
@@ -109,14 +108,7 @@ fn node_counts_obey_their_laws() {
             let splits = tally.splits.total();
             assert_eq!(tally.closed.iter().sum::<u32>(), splits + 1);
         }
-        let mut product: u128 = 1;
-        for (term, ty) in Problem::new(&guard).variant_terms() {
-            let default = term >= 3 * guard.limits.terms;
-            if !default && !matches!(guard.rows.get(term), Some(Row::Built { .. })) {
-                product = product.saturating_mul(guard.types[ty].variants.len() as u128);
-            }
-        }
-        let most = product.saturating_mul(2) - 1;
+        let most = most_nodes(&Problem::new(&guard)).unwrap_or(u128::MAX);
         assert!(u128::from(tally.nodes) <= most, "{}", vector.name);
     }
 }

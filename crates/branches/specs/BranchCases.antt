@@ -12,7 +12,8 @@ use Rattle.guard.specs.Number.{Parsed, Parsed.accepted, Parsed.refused}
 use Rattle.guard.specs.Search.{search, searchOf, searchTo}
 use Rattle.guard.specs.Terms.{tableOf}
 use Rattle.branches.specs.Procedure.{Procedure, procedure}
-use Rattle.branches.specs.Verdicts.{Pair, asksOf, codeFor, codes, listsOf}
+use Rattle.verdictcodes.specs.Codes.{codeFor}
+use Rattle.branches.specs.Verdicts.{Pair, asksOf, codes, listsOf}
 
 -- a file, a budget and the length of the buffer; the question that gets a no or 0, and the numbers in front of the zeros
 pub record Case : Type 0 where

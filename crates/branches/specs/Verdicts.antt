@@ -6,24 +6,12 @@ use Prim.Native.Nat.{ℕ, zero, suc}
 use lib.Dec.{eqb, ltb}
 use lib.ListN.{drop, replicate}
 use Rattle.laws.specs.Lists.{consIf, from}
-use Rattle.guard.specs.Answer.{Outcome, Outcome.refusal, Outcome.sat, Outcome.spent, Outcome.unsat, withBudget}
-use Rattle.guard.specs.Guard.{Guard, Literal}
+use Rattle.guard.specs.Guard.{Literal}
 use Rattle.guard.specs.Limits.{base}
 use Rattle.guard.specs.Number.{Parsed, Parsed.accepted, Parsed.refused}
-use Rattle.guard.specs.Search.{searchOf}
 use Rattle.tables.specs.Layout.{pad}
+use Rattle.verdictcodes.specs.Codes.{codeFor}
 use Rattle.branches.specs.Procedure.{Procedure, guardWith, procedure}
-
--- "1 SAT, 2 UNSAT, 3 SPENT"
-abbrev pub codeOf : Outcome → ℕ
-codeOf (refusal q) = 0
-codeOf (sat c) = 1
-codeOf (unsat c) = 2
-codeOf (spent c) = 3
-
--- what the desk says of a guard within a budget, as such a number
-unfoldable pub codeFor : ℕ → Guard → ℕ
-codeFor budget g = codeOf (withBudget budget (searchOf g))
 
 -- "by lower branch, then higher"; "A pair goes to the desk, lower branch's lines first"
 abbrev pub pairs : List (List Literal) → List (List Literal)

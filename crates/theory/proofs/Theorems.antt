@@ -10,7 +10,7 @@ use lib.Dec.{leb}
 use lib.ListN.{take}
 use Rattle.guard.specs.Answer.{Outcome, Outcome.refusal, Outcome.sat, Outcome.spent, Outcome.unsat, afterBuffers, afterQuestions, cutOff, outcome, questions, verdict}
 use Rattle.guard.specs.File.{file}
-use Rattle.guard.specs.Guard.{Guard}
+use Rattle.guard.specs.Guard.{Guard, Literal}
 use Rattle.guard.specs.Limits.{Limits, Supported, base, placeBuffer, rowBuffer}
 use Rattle.guard.specs.Meaning.{Satisfiable}
 use Rattle.guard.specs.Number.{Parsed, Parsed.accepted, Parsed.refused}
@@ -20,25 +20,42 @@ use Rattle.guard.proofs.AnswerLaws.{verdict-from-count}
 use Rattle.guard.proofs.SearchLaws.{closed-twice}
 use Rattle.guard.proofs.Claims.{Accepts, accepts-all, well-formed}
 use Rattle.models.proofs.OpenModel.{FewRows, rowBound}
+use Rattle.theory.specs.AnyOrder.{Settles}
 use Rattle.theory.proofs.OpenLeaf.{open-messages}
 use Rattle.theory.proofs.Satisfiable.{satisfiable-open}
-use Rattle.trees.specs.Tree.{Finished, HasOpenLeaf, Tree, nodes}
+use Rattle.trees.specs.Tree.{Finished, Tree}
+use Rattle.trees.specs.Rule.{Chooses, Rule, counted, countedTree, numbered, treeBy}
 use Rattle.trees.proofs.Bound.{tree-bound}
-use Rattle.trees.proofs.Counted.{count-bound, counted-finished, counted-visit, countedTree, visit-closed, visit-opened}
+use Rattle.trees.proofs.ByRule.{numbered-chooses, rule-finished}
+use Rattle.trees.proofs.Counted.{count-bound, counted-chooses, counted-finished, counted-visit, visit-closed, visit-opened}
 
 module _ (limits : Limits) (bytes : List ℕ) (g : Guard) (a : Accepts limits bytes g) where
   abbrev ok : WellFormed limits g
   ok = well-formed limits bytes g a
 
   -- Whichever permitted split is taken at each node: once the tree is finished, it has an open leaf exactly if some
-  -- messages of the right types make every line true.
-  pub any-order : (tree : Tree) → Finished g [] tree → HasOpenLeaf g [] tree ↔ Satisfiable g
+  -- messages of the right types make every line true, and it has at most 2 × W − 1 nodes.
+  pub any-order : (tree : Tree) → Finished g [] tree → Settles g tree
   any-order tree f =
-      (λ o. let m = open-messages limits (a .supported) g ok tree f o in record { assignment = m .assignment; holds = m .holds }, satisfiable-open limits (a .supported) g ok tree f)
+      record {
+        finished = f;
+        openLeaf = (
+          λ o. let m = open-messages limits (a .supported) g ok tree f o in record { assignment = m .assignment; holds = m .holds },
+          satisfiable-open limits (a .supported) g ok tree f,
+        );
+        fewNodes = tree-bound limits (a .supported) g ok tree f;
+      }
 
-  -- And whichever split is taken, the tree has at most 2 × W − 1 nodes.
-  pub any-order-bound : (tree : Tree) → Finished g [] tree → nodes tree ≤ 2 * W g - 1
-  any-order-bound = tree-bound limits (a .supported) g ok
+  -- By any rule that chooses a permitted split at each node that is neither closed nor open. So every such rule comes to an end.
+  pub any-rule : (rule : Rule) → Chooses rule g → Settles g (treeBy rule g)
+  any-rule rule c = any-order (treeBy rule g) (rule-finished limits (a .supported) g ok rule c)
+
+  -- Any numbers at all make such a rule, which takes the permitted splits by number; and the search's own is one.
+  pub any-numbers : (n : Guard → List Literal → ℕ) → Settles g (treeBy (numbered n) g)
+  any-numbers n = any-rule (numbered n) (numbered-chooses n g)
+
+  pub own-rule : Settles g (countedTree g)
+  own-rule = any-rule counted (counted-chooses limits (a .supported) g ok)
 
   -- The counted search ends open exactly if some messages of the right types make every line true.
   pub opened-satisfiable : (xs : List Visit) → searchOf g ≡ opened xs → FewRows g (rowBound limits)

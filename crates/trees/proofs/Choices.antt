@@ -2,7 +2,7 @@
 -- one. A built row or a default has one variant at most, and a term of number type has none. Assumes nothing.
 use mathlib.Core.Path.{_≡_, refl, ap, sym, _∙_, subst}
 use mathlib.Core.Bool.{Bool, true, false, not, _&&_}
-use mathlib.Core.List.{List, List·Memᴰ, List·Memᴰ·head, List·Memᴰ·append-cases, Memᴰ·append-left, Memᴰ·append-right}
+use mathlib.Core.List.{List, _∷_, List·Memᴰ, List·Memᴰ·head, List·Memᴰ·append-cases, Memᴰ·append-left, Memᴰ·append-right}
 use mathlib.Core.Logic.{_⊎_, inl, inr}
 use Prim.Native.Nat.{ℕ, _≤_, _<_, _^_}
 use native.Mathlib.Omega.{arith}
@@ -16,12 +16,12 @@ use Rattle.laws.proofs.Bits.{bit-zero, one-set}
 use Rattle.laws.proofs.Bools.{and-false, and-left, and-right, by-test}
 use Rattle.laws.proofs.Lists.{any-none, any-some, filter-is, from-bounds, mem-concatMap, mem-concatMap-inv, mem-from}
 use Rattle.guard.specs.Closure.{LacksAt, SameAt, State, labelOf, lacks}
-use Rattle.guard.specs.Guard.{Guard, Literal, Row, Row.built, Row.constant, Row.field, Row.variable, rowAt, typeAt, typeOf}
+use Rattle.guard.specs.Guard.{Guard, Literal, Literal.is, Literal.isnt, Row, Row.built, Row.constant, Row.field, Row.variable, rowAt, typeAt, typeOf}
 use Rattle.guard.specs.Limits.{Limits, Supported, variantLimit}
 use Rattle.guard.specs.Message.{Message, Message.made, Message.number}
 use Rattle.guard.specs.Node.{Split, holdsAnother, onTerm, secondKind}
 use Rattle.guard.specs.Rules.{LeastClosure}
-use Rattle.guard.specs.Search.{choices, ownChoice}
+use Rattle.guard.specs.Search.{choices, labelTotal, ownChoice}
 use Rattle.guard.specs.Terms.{Build, Table, Term, defaultTerm, fromRows, pairTerms, siblingsOf, tableOf, termCount}
 use Rattle.guard.specs.Types.{Types, defaults, fieldsOf, isNumber, variantsOf}
 use Rattle.guard.specs.WellFormed.{RowFits, WellFormed}
@@ -29,7 +29,7 @@ use Rattle.guard.proofs.ClosureBelow.{InRange, LiteralInRange, LiteralsInRange}
 use Rattle.guard.proofs.ClosureState.{closure-small}
 use Rattle.guard.proofs.DefaultLaws.{default-belongs}
 use Rattle.guard.proofs.LeastClosure.{closure-least}
-use Rattle.guard.proofs.NodeLaws.{holds-it, lowest-left, not-alone, split-term}
+use Rattle.guard.proofs.NodeLaws.{SplitsAt, cons-in-range, decision-in-range, holds-it, is-falls, isnt-falls, lowest-left, not-alone, split-term}
 use Rattle.guard.proofs.TableLaws.{build-default, build-row, defaultBuildOf, literals-in-range, mem-rows, rows-inv, table-in-range, term-cases, term-default, term-row, term-sibling, types-of}
 use Rattle.trees.specs.Tree.{Permitted, Permitted.onChoice, Permitted.onField, literalsAt, stateAt}
 
@@ -90,6 +90,26 @@ module _ (limits : Limits) (sup : Supported limits) (g : Guard) (ok : WellFormed
   -- the closure at a node
   pub node-least : (ds : List Literal) → LiteralsInRange ds → LeastClosure (tableOf g) (literalsAt g ds) (SameAt (stateAt g ds)) (LacksAt (stateAt g ds))
   node-least ds r = closure-least (tableOf g) (literalsAt g ds) range (node-in-range ds r)
+
+  -- a permitted split is on a term of the table whose label holds the variant and another one
+  pub permitted-splits : (ds : List Literal) (d : Split) → Permitted g ds d → SplitsAt (tableOf g) (stateAt g ds) d
+  permitted-splits ds d (onField q m k e) = subst (SplitsAt (tableOf g) (stateAt g ds)) (sym e) (record { type = q .type; term = range .readTerms q m; variant = range .reads q m .2; another = k })
+  permitted-splits ds d (onChoice x v m k mv e) = subst (SplitsAt (tableOf g) (stateAt g ds)) (sym e) (split-term (tableOf g) range (literalsAt g ds) x v (choice-term x m) k mv)
+
+  -- a child of a node that is split: its decisions are in range, and the total of the label sizes is smaller
+  pub record Child (ds : List Literal) (l : Literal) : Type 0 where
+    pub inRange : LiteralsInRange (l ∷ ds)
+    pub falls : labelTotal (tableOf g) (stateAt g (l ∷ ds)) < labelTotal (tableOf g) (stateAt g ds)
+
+  module _ (ds : List Literal) (r : LiteralsInRange ds) (d : Split) (sp : SplitsAt (tableOf g) (stateAt g ds) d) where
+    small : (d .term < termCount) × (d .variant < variantLimit)
+    small = decision-in-range (tableOf g) range (literalsAt g ds) (node-in-range ds r) d sp
+
+    pub is-child : Child ds (is (d .term) (d .variant))
+    is-child = record { inRange = cons-in-range (is (d .term) (d .variant)) ds small r; falls = is-falls (tableOf g) range (literalsAt g ds) (node-in-range ds r) d sp }
+
+    pub isnt-child : Child ds (isnt (d .term) (d .variant))
+    isnt-child = record { inRange = cons-in-range (isnt (d .term) (d .variant)) ds small r; falls = isnt-falls (tableOf g) range (literalsAt g ds) (node-in-range ds r) d sp }
 
   -- what a split is on
   pub record OnChoice (ds : List Literal) (d : Split) : Type 0 where
@@ -168,12 +188,9 @@ module _ (limits : Limits) (sup : Supported limits) (g : Guard) (ok : WellFormed
           otherHolds = lw;
         }
 
-    -- a permitted split is on a choice, and its decision is in range
+    -- a permitted split is on a choice
     pub permitted-on-choice : (d : Split) → Permitted g ds d → OnChoice ds d
-    permitted-on-choice d (onField q m k e) = subst (OnChoice ds) (sym e) (on-term (record { term = q .term; type = q .type }) (q .variant) (range .readTerms q m) (range .reads q m .2) k)
-    permitted-on-choice d (onChoice x v m k mv e) =
-        let sp = split-term (tableOf g) range (literalsAt g ds) x v (choice-term x m) k mv in
-        subst (OnChoice ds) (sym e) (on-term x v (choice-term x m) (sp .variant) (sp .another))
+    permitted-on-choice d p = let sp = permitted-splits ds d p in on-term (record { term = d .term; type = sp .type }) (d .variant) (sp .term) (sp .variant) (sp .another)
 
     -- a term of the second kind is a choice
     pub second-choice : (x : Term) → List·Memᴰ x ((tableOf g) .terms) → secondKind (tableOf g) (stateAt g ds) x ≡ true → List·Memᴰ x (choices g)
@@ -185,6 +202,4 @@ module _ (limits : Limits) (sup : Supported limits) (g : Guard) (ok : WellFormed
 
     -- the decision of a permitted split is in range
     pub split-in-range : (d : Split) → Permitted g ds d → (d .term < termCount) × (d .variant < variantLimit)
-    split-in-range d p =
-        let oc = permitted-on-choice d p in
-        (range .terms (record { term = d .term; type = oc .type }) (oc .inTable) .0, omega (arith, oc .variant, ok .variantCounts (oc .type)))
+    split-in-range d p = small ds r d (permitted-splits ds d p)

@@ -1,11 +1,11 @@
 -- The counted search is the depth-first visit of one finished tree, the one that takes the defined split at each node. So
 -- its node count is at most the tree's number of nodes, and it ends open exactly if the tree has an open leaf.
 -- Assumes nothing.
-use mathlib.Core.Path.{_≡_, refl, ap, sym, _∙_, ap₂}
+use mathlib.Core.Path.{_≡_, refl, ap, sym, subst, _∙_, ap₂}
 use mathlib.Core.Bool.{Bool, true, false, false≢true}
 use mathlib.Core.List.{List, [], _∷_, List·Memᴰ·not-nil}
-use mathlib.Core.Logic.{inl, inr}
-use Prim.Native.Nat.{ℕ, zero, suc, _+_, _≤_, _<_, _*_, _-_}
+use mathlib.Core.Logic.{inl, inr, _↔_}
+use Prim.Native.Nat.{ℕ, zero, suc, _≤_, _<_, _*_, _-_}
 use native.Mathlib.Omega.{arith}
 use mathlib.Core.Option.{Option, none, some}
 use Rattle.laws.specs.Lists.{find}
@@ -18,11 +18,13 @@ use Rattle.guard.specs.Search.{Visit, Visit.split, Visits, Visits.closed, Visit
 use Rattle.guard.specs.Terms.{Read, Term, tableOf}
 use Rattle.guard.specs.WellFormed.{WellFormed}
 use Rattle.guard.proofs.ClosureBelow.{LiteralsInRange}
-use Rattle.guard.proofs.NodeLaws.{cons-in-range, decision-in-range, is-falls, isnt-falls, lowest-left, split-is}
+use Rattle.guard.proofs.NodeLaws.{SplitsAt, lowest-left, split-is}
 use Rattle.guard.proofs.SearchLaws.{plus-visits}
 use Rattle.trees.specs.Tree.{Finished, HasOpenLeaf, Permitted, Permitted.onChoice, Permitted.onField, Tree, Tree.branch, Tree.leaf, closedAt, leafVisit, literalsAt, nodes, stateAt, visit}
+use Rattle.trees.specs.Rule.{Chooses, MaySay, OnTree, counted, countedTree, treeBy, treeTo}
 use Rattle.trees.proofs.Bound.{tree-bound}
-use Rattle.trees.proofs.Choices.{choice-term, node-in-range, range, second-choice}
+use Rattle.trees.proofs.ByRule.{rule-finished}
+use Rattle.trees.proofs.Choices.{choice-term, is-child, isnt-child, range, second-choice}
 
 -- ---- visits
 visits-nodes : (g : Guard) (ds : List Literal) (tree : Tree) → visits (visit g ds tree) ≤ nodes tree
@@ -75,23 +77,7 @@ visit-closed g ds (branch d yes′ no′) n e o =
 
 -- ---- the tree of the defined splits
 
-abbrev grow : Bool → Option Split → (Literal → Tree) → Tree
-grow true d child = leaf
-grow false none child = leaf
-grow false (some d) child = branch d (child (is (d .term) (d .variant))) (child (isnt (d .term) (d .variant)))
-
--- at most so deep
-treeTo : ℕ → Guard → List Literal → Tree
-treeTo zero g ds = leaf
-treeTo (suc k) g ds = grow (closedAt g ds) (splitOf (tableOf g) (stateAt g ds)) (λ l. treeTo k g (l ∷ ds))
-
-pub countedTree : Guard → Tree
-countedTree g = treeTo (suc (labelTotal (tableOf g) (stateAt g []))) g []
-
 module _ (limits : Limits) (sup : Supported limits) (g : Guard) (ok : WellFormed limits g) where
-  total : List Literal → ℕ
-  total ds = labelTotal (tableOf g) (stateAt g ds)
-
   -- the defined split is permitted
   defined-permitted : (ds : List Literal) → LiteralsInRange ds → (d : Split) → splitOf (tableOf g) (stateAt g ds) ≡ some d → Permitted g ds d
   unfolding splitOf
@@ -125,46 +111,52 @@ module _ (limits : Limits) (sup : Supported limits) (g : Guard) (ok : WellFormed
       go none none u w e (onField r m k z) = false≢true (sym (find-none (firstKind (stateAt g ds)) ((tableOf g) .reads) u r m) ∙ k)
       go none none u w e (onChoice x v m k mv z) = false≢true (sym (find-none (secondKind (tableOf g) (stateAt g ds)) ((tableOf g) .terms) w x (choice-term limits sup g ok x m)) ∙ k)
 
-  -- the tree is finished, and its visit is the search
-  record Counts (k : ℕ) (ds : List Literal) : Type 0 where
-    finished : Finished g ds (treeTo k g ds)
-    visited : visit g ds (treeTo k g ds) ≡ searchTo k (tableOf g) (literalsAt g ds)
-
-  counts : (k : ℕ) (ds : List Literal) → LiteralsInRange ds → total ds < k → Counts k ds
-  unfolding treeTo searchTo total
-  counts zero ds r h = absurd (omega arith)
-  counts (suc k) ds r h = go (λ l rl lt. counts k (l ∷ ds) rl lt) (closedAt g ds) refl (splitOf (tableOf g) (stateAt g ds)) refl
+  -- "With nothing to split, the node is open": the search finds nothing exactly where nothing is permitted
+  pub nothing-to-split : (ds : List Literal) → LiteralsInRange ds → (splitOf (tableOf g) (stateAt g ds) ≡ none) ↔ ((d : Split) → ¬ Permitted g ds d)
+  nothing-to-split ds r = (none-permitted ds, λ f. go f (splitOf (tableOf g) (stateAt g ds)) refl)
     where
-      go : ((l : Literal) → LiteralsInRange (l ∷ ds) → labelTotal (tableOf g) (stateAt g (l ∷ ds)) < k → Counts k (l ∷ ds)) → (b : Bool) → closedAt g ds ≡ b → (o : Option Split) → splitOf (tableOf g) (stateAt g ds) ≡ o → Counts (suc k) ds
-      go ih true e o q =
-          record {
-            finished = rw e (inl e);
-            visited = rw e (ap leafVisit e);
-          }
-      go ih false e none q =
-          record {
-            finished = rw (e, q) (inr (e, none-permitted ds q));
-            visited = rw (e, q) (ap leafVisit e);
-          }
-      go ih false e (some d) q =
-          let sp = split-is (tableOf g) (range limits sup g ok) (literalsAt g ds) d q in
-          let nr = node-in-range limits sup g ok ds r in
-          let small = decision-in-range (tableOf g) (range limits sup g ok) (literalsAt g ds) nr d sp in
-          let yes′ : Counts k (is (d .term) (d .variant) ∷ ds) = ih (is (d .term) (d .variant)) (cons-in-range (is (d .term) (d .variant)) ds small r) (omega (arith, is-falls (tableOf g) (range limits sup g ok) (literalsAt g ds) nr d sp)) in
-          let no′ : Counts k (isnt (d .term) (d .variant) ∷ ds) = ih (isnt (d .term) (d .variant)) (cons-in-range (isnt (d .term) (d .variant)) ds small r) (omega (arith, isnt-falls (tableOf g) (range limits sup g ok) (literalsAt g ds) nr d sp)) in
-          record {
-            finished = rw (e, q) (e, defined-permitted ds r d q, yes′ .finished, no′ .finished);
-            visited = rw (e, q) (ap₂ (λ (x y : Visits). children (kindOf (tableOf g) (stateAt g ds)) x (λ u. y)) (yes′ .visited) (no′ .visited));
-          }
+      go : ((d : Split) → ¬ Permitted g ds d) → (c : Option Split) → splitOf (tableOf g) (stateAt g ds) ≡ c → c ≡ none
+      go f none e = refl
+      go f (some d) e = absurd (f d (defined-permitted ds r d e))
 
-  -- the tree of the counted search is finished, and its visit is the search
+  split-here : (ds : List Literal) (d : Split) → splitOf (tableOf g) (stateAt g ds) ≡ some d → SplitsAt (tableOf g) (stateAt g ds) d
+  split-here ds = split-is (tableOf g) (range limits sup g ok) (literalsAt g ds)
+
+  on-tree-in-range : (ds : List Literal) → OnTree counted g ds → LiteralsInRange ds
+  on-tree-in-range [] o = λ l m. absurd (List·Memᴰ·not-nil m)
+  on-tree-in-range (l ∷ ds) (o, e, d, q, inl z) = subst (λ (k : Literal). LiteralsInRange (k ∷ ds)) (sym z) (is-child limits sup g ok ds (on-tree-in-range ds o) d (split-here ds d q) .inRange)
+  on-tree-in-range (l ∷ ds) (o, e, d, q, inr z) = subst (λ (k : Literal). LiteralsInRange (k ∷ ds)) (sym z) (isnt-child limits sup g ok ds (on-tree-in-range ds o) d (split-here ds d q) .inRange)
+
+  -- the search's own rule chooses permitted splits, so its tree is finished
+  pub counted-chooses : Chooses counted g
+  counted-chooses ds o e = go (splitOf (tableOf g) (stateAt g ds)) refl
+    where
+      go : (c : Option Split) → splitOf (tableOf g) (stateAt g ds) ≡ c → MaySay g ds c
+      go (some d) q = defined-permitted ds (on-tree-in-range ds o) d q
+      go none q = none-permitted ds q
+
   pub counted-finished : Finished g [] (countedTree g)
-  unfolding countedTree total
-  counted-finished = counts (suc (labelTotal (tableOf g) (stateAt g []))) [] (λ l m. absurd (List·Memᴰ·not-nil m)) (omega arith) .finished
+  counted-finished = rule-finished limits sup g ok counted counted-chooses
+
+  -- the visit of its tree is the search
+  visit-to : (k : ℕ) (ds : List Literal) → LiteralsInRange ds → labelTotal (tableOf g) (stateAt g ds) < k → visit g ds (treeTo counted k g ds) ≡ searchTo k (tableOf g) (literalsAt g ds)
+  unfolding treeTo searchTo
+  visit-to zero ds r h = absurd (omega arith)
+  visit-to (suc k) ds r h = go (λ l rl lt. visit-to k (l ∷ ds) rl lt) (closedAt g ds) refl (splitOf (tableOf g) (stateAt g ds)) refl
+    where
+      go : ((l : Literal) → LiteralsInRange (l ∷ ds) → labelTotal (tableOf g) (stateAt g (l ∷ ds)) < k → visit g (l ∷ ds) (treeTo counted k g (l ∷ ds)) ≡ searchTo k (tableOf g) (literalsAt g (l ∷ ds)))
+          → (b : Bool) → closedAt g ds ≡ b → (o : Option Split) → splitOf (tableOf g) (stateAt g ds) ≡ o → visit g ds (treeTo counted (suc k) g ds) ≡ searchTo (suc k) (tableOf g) (literalsAt g ds)
+      go ih true e o q = rw e (ap leafVisit e)
+      go ih false e none q = rw (e, q) (ap leafVisit e)
+      go ih false e (some d) q =
+          let yes′ = is-child limits sup g ok ds r d (split-here ds d q) in
+          let no′ = isnt-child limits sup g ok ds r d (split-here ds d q) in
+          rw (e, q) (ap₂ (λ (x y : Visits). children (kindOf (tableOf g) (stateAt g ds)) x (λ u. y)) (ih (is (d .term) (d .variant)) (yes′ .inRange) (omega (arith, yes′ .falls)))
+          (ih (isnt (d .term) (d .variant)) (no′ .inRange) (omega (arith, no′ .falls))))
 
   pub counted-visit : visit g [] (countedTree g) ≡ searchOf g
-  unfolding countedTree searchOf search total
-  counted-visit = counts (suc (labelTotal (tableOf g) (stateAt g []))) [] (λ l m. absurd (List·Memᴰ·not-nil m)) (omega arith) .visited
+  unfolding treeBy searchOf search
+  counted-visit = visit-to (suc (labelTotal (tableOf g) (stateAt g []))) [] (λ l m. absurd (List·Memᴰ·not-nil m)) (omega arith)
 
   -- "the node count .. is at most 2 × W − 1"
   pub count-bound : nodeCount g ≤ 2 * W g - 1

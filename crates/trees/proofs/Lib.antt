@@ -1,3 +1,4 @@
 pub mod Choices
 pub mod Bound
+pub mod ByRule
 pub mod Counted

@@ -1,2 +1,2 @@
-// Search trees by any permitted splits: how many nodes they have, and that the counted search visits one of them.
+// Search trees by any permitted splits: the rules that choose these, how many nodes the trees have, and that the counted search visits one of them.
 // This crate has no code: specs/ holds the definitions, proofs/ the mathematics.

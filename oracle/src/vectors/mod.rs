@@ -14,9 +14,12 @@ mod splits;
 mod walks;
 pub mod written;
 
+use std::collections::HashSet;
+
 use crate::answer::{answer, Answer};
 use crate::encode::Draft;
 use crate::guard::Limits;
+use crate::order;
 use crate::random::Random;
 use crate::read::read;
 use crate::text;
@@ -170,6 +173,36 @@ pub fn check_answers(vectors: &[Vector], output: &str) -> Result<(), String> {
         None => Ok(()),
         Some(line) => Err(format!("{line:?} follows after the last answer")),
     }
+}
+
+/// Checks search trees of the guards with a verdict, in many orders (request
+/// #108), and tells how many. A guard that stands in several vectors is tried
+/// once.
+pub fn check_orders(vectors: &[Vector]) -> Result<String, String> {
+    const RANDOM: u64 = 8;
+    const MOST_NODES: u32 = 400;
+    let mut seen = HashSet::new();
+    let (mut trees, mut all, mut varied) = (0, 0, 0);
+    for vector in vectors {
+        let sat = match vector.answer.split(' ').next() {
+            Some("SAT") => true,
+            Some("UNSAT") => false,
+            _ => continue,
+        };
+        if !seen.insert(&vector.file) {
+            continue;
+        }
+        let wrong = |why: String| format!("{}: {why}", vector.name);
+        let guard = read(&vector.file, Limits::BASE).map_err(|_| wrong("is refused".into()))?;
+        let tried = order::check(&guard, sat, RANDOM, MOST_NODES).map_err(wrong)?;
+        trees += tried.trees;
+        all += usize::from(tried.all);
+        varied += usize::from(tried.varied);
+    }
+    let guards = seen.len();
+    Ok(format!(
+        "{trees} trees of {guards} guards, all orders of {all}, and sizes that depend on the order for {varied}"
+    ))
 }
 
 /// "For each vector a 2-byte length, the bytes, a 4-byte budget; ended by a
