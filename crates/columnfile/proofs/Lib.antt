@@ -1,0 +1,4 @@
+pub mod Gives
+pub mod RowNumbers
+pub mod Cells
+pub mod Inverse
