@@ -24,7 +24,7 @@ use Rattle.serialize.proofs.Taking.{Takes, TakesBefore}
 use Rattle.serialize.proofs.TakenFile.{all-ready, takes-count, takes-types, types-fit}
 use Rattle.serialize.proofs.Theorems.{as-bytes, file-numbers, well-formed-file}
 use Rattle.merged.specs.Merge.{typePart}
-use Rattle.columnfile.specs.Columns.{Columns, bytesFor, cell, column, columnBytes, columns, columnsBytes, entry, linePart, restoredFile, restoredHead, restoredRow, restoredRows, rowNumbers, second, storedBytes, third, width}
+use Rattle.columnfile.specs.Columns.{bytesFor, cell, column, columnBytes, columns, columnsBytes, entry, linePart, restoredFile, restoredHead, restoredRow, restoredRows, rowNumbers, second, storedBytes, third, width}
 use Rattle.columnfile.proofs.Gives.{Gives, gives-asked, gives-bind, gives-return, gives-same}
 use Rattle.columnfile.proofs.RowNumbers.{Sizes, at, at-most-six, row-bytes, six-places, width-is}
 use Rattle.columnfile.proofs.Cells.{cell-back, column-back}
@@ -85,8 +85,12 @@ module _ (limits : Limits) (sup : Supported limits) (g : Guard) (w : WellFormed 
   abbrev numbersAt : ℕ → List ℕ
   numbersAt j = map (at j) rs
 
-  abbrev columnsOf : Columns
-  columnsOf = record { kinds = numbersAt 0; seconds = numbersAt 1; thirds = numbersAt 2; fourths = numbersAt 3; fifths = numbersAt 4; sixths = numbersAt 5 }
+  -- the columns before this one
+  abbrev columnsUpTo : ℕ → List (List ℕ)
+  columnsUpTo j = map numbersAt (from j 0)
+
+  abbrev columnsOf : List (List ℕ)
+  columnsOf = columnsUpTo 6
 
   at-row : (j i : ℕ) → i < length rs → getD (numbersAt j) i 0 ≡ at j (rowAt rs i)
   at-row j i h = map-at (at j) rs i noRow 0 h

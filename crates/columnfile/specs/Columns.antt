@@ -88,33 +88,25 @@ columnFrom p (suc left) xs = p (length xs) >>= λ x. columnFrom p left (xs ++ (x
 abbrev pub column : Types → ℕ → ℕ → List ℕ → List ℕ → List ℕ → Parser (List ℕ)
 column ts j n ks ss vs = columnFrom (λ i. cell ts j (getD ks i 0) (getD ss i 0) (getD vs i 0)) n []
 
-pub record Columns : Type 0 where
-  pub kinds : List ℕ
-  pub seconds : List ℕ
-  pub thirds : List ℕ
-  pub fourths : List ℕ
-  pub fifths : List ℕ
-  pub sixths : List ℕ
+-- number i of column j, 0 where there is none
+abbrev pub numberIn : List (List ℕ) → ℕ → ℕ → ℕ
+numberIn cs j i = getD (getD cs j []) i 0
 
-abbrev pub columns : Types → ℕ → Parser Columns
-columns ts n = do
-  ks ← column ts 0 n [] [] []
-  ss ← column ts 1 n ks [] []
-  vs ← column ts 2 n ks ss []
-  ps ← column ts 3 n ks ss vs
-  qs ← column ts 4 n ks ss vs
-  rs ← column ts 5 n ks ss vs
-  return (record { kinds = ks; seconds = ss; thirds = vs; fourths = ps; fifths = qs; sixths = rs })
+-- so many columns more of n rows, of which these are read
+abbrev pub columnsFrom : Types → ℕ → ℕ → List (List ℕ) → Parser (List (List ℕ))
+columnsFrom ts n zero cs = return cs
+columnsFrom ts n (suc left) cs = column ts (length cs) n (getD cs 0 []) (getD cs 1 []) (getD cs 2 []) >>= λ xs. columnsFrom ts n left (cs ++ (xs ∷ []))
+
+abbrev pub columns : Types → ℕ → Parser (List (List ℕ))
+columns ts n = columnsFrom ts n 6 []
 
 -- the numbers of row i
-abbrev pub restoredRow : Types → Columns → ℕ → List ℕ
-restoredRow ts c i =
-    take (width ts (getD (c .kinds) i 0) (getD (c .seconds) i 0) (getD (c .thirds) i 0))
-    (getD (c .kinds) i 0 ∷ getD (c .seconds) i 0 ∷ getD (c .thirds) i 0 ∷ getD (c .fourths) i 0 ∷ getD (c .fifths) i 0 ∷ getD (c .sixths) i 0 ∷ [])
+abbrev pub restoredRow : Types → List (List ℕ) → ℕ → List ℕ
+restoredRow ts cs i = take (width ts (numberIn cs 0 i) (numberIn cs 1 i) (numberIn cs 2 i)) (map (λ c. getD c i 0) cs)
 
 -- N, and n rows in row order
-abbrev pub restoredRows : Types → ℕ → Columns → List ℕ
-restoredRows ts n c = encoded n ++ concatMap (λ i. bytesFor (restoredRow ts c i)) (from n 0)
+abbrev pub restoredRows : Types → ℕ → List (List ℕ) → List ℕ
+restoredRows ts n cs = encoded n ++ concatMap (λ i. bytesFor (restoredRow ts cs i)) (from n 0)
 
 -- "Back again, up to N the base's questions are asked": the restored file up to its last row; what is left of the stored bytes stands
 -- behind it
@@ -125,8 +117,8 @@ restoredHead limits = do
   ask 8 (allDefaults ts)
   ask 9 (infiniteFields ts)
   n ← count (limits .terms)
-  c ← columns ts n
-  return (typePart ts ++ restoredRows ts n c)
+  cs ← columns ts n
+  return (typePart ts ++ restoredRows ts n cs)
 
 -- "the rest are asked of the restored file"
 unfoldable pub restoredFile : Limits → List ℕ → Parsed Guard
