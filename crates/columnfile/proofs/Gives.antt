@@ -34,7 +34,7 @@ module _ {A : Type 0} where
 -- ---- one number
 
 -- a number's bytes, by themselves
-one-number : (n : ℕ) → n ≤ width32 .most → encoded n ≡ bytesFor (n ∷ [])
+pub one-number : (n : ℕ) → n ≤ width32 .most → encoded n ≡ bytesFor (n ∷ [])
 unfolding encodedValue
 one-number n small = sym (same-encoded n small) ∙ sym (append-nil (encodedValue n))
 
@@ -45,7 +45,7 @@ pub gives-value : (n : ℕ) → n ≤ valueWidth .most → Gives (unsignedOf val
 gives-value n small = gives-same (unsignedOf valueWidth) (sym (append-nil (encodedValue n))) (record { takes = λ left. value-read-back n left small })
 
 -- a number that passes a test
-gives-tested : (q n : ℕ) (test : ℕ → Bool) → n ≤ width32 .most → test n ≡ true → Gives (unsigned >>= λ i. ask q (test i) >> return i) (bytesFor (n ∷ [])) n
+pub gives-tested : (q n : ℕ) (test : ℕ → Bool) → n ≤ width32 .most → test n ≡ true → Gives (unsigned >>= λ i. ask q (test i) >> return i) (bytesFor (n ∷ [])) n
 gives-tested q n test small pass =
     gives-same (unsigned >>= λ i. ask q (test i) >> return i) (append-nil (bytesFor (n ∷ [])))
     (gives-bind unsigned (λ i. ask q (test i) >> return i) (gives-number n small) (gives-asked q (test n) (return n) pass (gives-return n)))
