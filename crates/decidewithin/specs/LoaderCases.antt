@@ -1,7 +1,7 @@
 -- The loader's answers to a few files, by computation: case c of document 01, buffers one number too short, and each count one beyond its
 -- limit. Assumes nothing.
 use mathlib.Core.Path.{_≡_, refl}
-use mathlib.Core.List.{List, [], _∷_, _++_, map}
+use mathlib.Core.List.{List, [], _∷_, map}
 use Prim.Native.Nat.{ℕ}
 use lib.Count.{ones, onesIn}
 use Rattle.guard.specs.Answer.{Outcome, Outcome.refusal, Outcome.sat, Outcome.spent, outcome, questions}
