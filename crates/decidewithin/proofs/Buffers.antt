@@ -9,7 +9,7 @@ use lib.Dec.{leb}
 use borrow.Author.Tests.{le-leb, leb-true, lt-leb}
 use Rattle.laws.proofs.Bools.{and-both, and-left, and-right, by-test}
 use Rattle.guard.specs.File.{file}
-use Rattle.guard.specs.Limits.{Limits, Supported, rowBuffer}
+use Rattle.guard.specs.Limits.{Supported, rowBuffer}
 use Rattle.reader.specs.Reader.{limitsOf, tablesAt}
 use Rattle.messages.specs.Messages.{rowsEnough}
 use Rattle.messages.proofs.FewRows.{rows-small}

@@ -1,2 +1,3 @@
 pub mod CallerLimits
 pub mod Decides
+pub mod LoaderCases

@@ -1,6 +1,6 @@
 -- The rows that free classes take, class by class: a free class takes its growth, any other none, so the sum rises. Where only
 -- the first so many of two blocks of numbers are free, no more than these count. Assumes nothing.
-use mathlib.Core.Path.{_≡_, refl, ap, _∙_, subst, sym}
+use mathlib.Core.Path.{_≡_, refl, ap, subst, sym}
 use mathlib.Core.Bool.{Bool, true, false, cond}
 use mathlib.Core.Logic.{_⊎_, inl, inr}
 use Prim.Native.Nat.{ℕ, zero, suc, _+_, _*_, _-_, _≤_, _<_, min}

@@ -2,11 +2,11 @@
 -- class is a term, and the class of a default has a shape or a constant. So at most three numbers for each row are free,
 -- and each takes its growth, with ranks up to 30. Assumes nothing.
 use mathlib.Core.Path.{_≡_, refl, ap, sym, _∙_, subst}
-use mathlib.Core.Bool.{Bool, true}
+use mathlib.Core.Bool.{true}
 use mathlib.Core.List.{List, List·Memᴰ}
 use mathlib.Core.Logic.{_⊎_, inl, inr}
-use mathlib.Core.Option.{Option, none, some}
-use Prim.Native.Nat.{ℕ, _+_, _*_, _-_, _≤_, _<_}
+use mathlib.Core.Option.{none, some}
+use Prim.Native.Nat.{ℕ, _+_, _*_, _≤_, _<_}
 use native.Mathlib.Nat.{mul-le-mul}
 use native.Mathlib.Omega.{arith}
 use lib.Dec.{leb, ltb}
@@ -25,7 +25,7 @@ use Rattle.guard.specs.Types.{defaults, fieldsOf}
 use Rattle.guard.specs.WellFormed.{RowFits, WellFormed}
 use Rattle.guard.proofs.Agreement.{named-closure}
 use Rattle.guard.proofs.ClosureState.{Small}
-use Rattle.guard.proofs.TableLaws.{build-default, const-default, few-rows, read-inv, row-fit, term-cases}
+use Rattle.guard.proofs.TableLaws.{build-default, const-default, read-inv, row-fit, term-cases}
 use Rattle.siblings.proofs.ReadLaws.{sibling-terms}
 use Rattle.siblings.proofs.RowEntries.{read-few}
 use Rattle.closings.proofs.TermClasses.{class-term}
@@ -37,7 +37,7 @@ use Rattle.kinds.specs.Found.{constantOf, shapeOf}
 use Rattle.kinds.proofs.KindLaws.{no-constant-found, no-shape-found}
 use Rattle.drawnrows.specs.Drawing.{growthRows}
 use Rattle.plans.specs.Chosen.{freeAt, isMarked}
-use Rattle.plans.specs.Plans.{OpenState, highestRank, isFree, openOf, typeFor}
+use Rattle.plans.specs.Plans.{OpenState, highestRank, isFree, openOf}
 use Rattle.plans.proofs.ClassLaws.{need-class, type-small}
 use Rattle.plans.proofs.PlanCases.{highest-small}
 use Rattle.plans.proofs.PlanLaws.{falls}
@@ -50,17 +50,14 @@ use Rattle.messages.proofs.OpenLaws.{free-needed, nd, o}
 
 -- ---- the numbers of terms
 
+-- a row's number, or a sibling field's
+abbrev Low : Guard → ℕ → Type 0
+Low g c = (c < length (g .rows)) ⊎ ((24 ≤ c) × (c < 24 + 2 * length (g .rows)))
+
+abbrev Default : Guard → ℕ → Type 0
+Default g c = (t : ℕ) × (t < length (g .types)) × (c ≡ defaultTerm t)
+
 module _ (limits : Limits) (sup : Supported limits) (g : Guard) (ok : WellFormed limits g) where
-  abbrev many : ℕ
-  many = length (g .rows)
-
-  -- a row's number, or a sibling field's
-  abbrev pub Low : ℕ → Type 0
-  Low c = (c < length (g .rows)) ⊎ ((24 ≤ c) × (c < 24 + 2 * length (g .rows)))
-
-  abbrev Default : ℕ → Type 0
-  Default c = (t : ℕ) × (t < length (g .types)) × (c ≡ defaultTerm t)
-
   few : (r : Read) → List·Memᴰ r (tableOf g .reads) → (length (siblingsOf (g .types) r) ≤ 2) × (r .row < length (g .rows))
   few =
       read-inv g (λ r. (length (siblingsOf (g .types) r) ≤ 2) × (r .row < length (g .rows)))
@@ -74,8 +71,8 @@ module _ (limits : Limits) (sup : Supported limits) (g : Guard) (ok : WellFormed
       let b = from-bounds (length (siblingsOf (g .types) r)) (siblingTerm (r .row)) (x .term) k in
       (omega (arith, b .0), omega (arith, b .1, few r m))
 
-  term-low : (x : Term) → List·Memᴰ x (tableOf g .terms) → Low (x .term) ⊎ Default (x .term)
-  term-low = term-cases g (λ x. Low (x .term) ⊎ Default (x .term)) (λ i h. inl (inl h)) (λ r m x n. inl (inr (sibling-low r m x n))) (λ t h. inr (t, h, refl))
+  term-low : (x : Term) → List·Memᴰ x (tableOf g .terms) → Low g (x .term) ⊎ Default g (x .term)
+  term-low = term-cases g (λ x. Low g (x .term) ⊎ Default g (x .term)) (λ i h. inl (inl h)) (λ r m x n. inl (inr (sibling-low r m x n))) (λ t h. inr (t, h, refl))
 
 module _ (g : Guard) (ok : Accepted g) (s : State) (open′ : OpenLeaf g s) (held : Held (s .classes)) (small : Small s) (leaf : Leaf) (is : LeafOf g s leaf) where
   abbrev x : OpenState
@@ -103,15 +100,15 @@ module _ (g : Guard) (ok : Accepted g) (s : State) (open′ : OpenLeaf g s) (hel
       go (made u v ms) q =
           no-shape-found (ok .limits) (ok .supported) g (ok .wellFormed) (ok .total) ls (nd g ok s open′ held small leaf is) (o g ok s open′ held small leaf is) s (open′ .agrees) small c (leb-true _ _ (fixed .0)) _ (row (build-default g t u v ms h q)) e
 
-  free-low : (c : ℕ) → c < 78 → isFree (openOf g s (leaf .marks)) c ≡ true → Low (ok .limits) (ok .supported) g (ok .wellFormed) c
+  free-low : (c : ℕ) → c < 78 → isFree (openOf g s (leaf .marks)) c ≡ true → Low g c
   free-low c h f =
       let need = free-needed g ok s open′ held small leaf is c h f in
       let (y, m, e) = need-class (ok .limits) (ok .supported) g (ok .wellFormed) (ok .total) ls (nd g ok s open′ held small leaf is) (o g ok s open′ held small leaf is) s (open′ .agrees) small (leaf .marks) (is .marks) c need in
       let (z, n, q) = class-term (ok .limits) (ok .supported) g (ok .wellFormed) ls (nd g ok s open′ held small leaf is) y m in
       go (z .term) (q ∙ e) (sym (ap (classOf S) e) ∙ named-closure (tableOf g) ls .own (y .term) ∙ e) (term-low (ok .limits) (ok .supported) g (ok .wellFormed) z n)
     where
-      go : (d : ℕ) → d ≡ c → classOf S c ≡ c → Low (ok .limits) (ok .supported) g (ok .wellFormed) d ⊎ Default (ok .limits) (ok .supported) g (ok .wellFormed) d → Low (ok .limits) (ok .supported) g (ok .wellFormed) c
-      go d e own (inl l) = subst (Low (ok .limits) (ok .supported) g (ok .wellFormed)) e l
+      go : (d : ℕ) → d ≡ c → classOf S c ≡ c → Low g d ⊎ Default g d → Low g c
+      go d e own (inl l) = subst (Low g) e l
       go d e own (inr (t, l, q)) = absurd (default-fixed t l c (ap (classOf S) (sym q ∙ e) ∙ own) f)
 
   highest : highestRank (openOf g s (leaf .marks)) ≤ 30
@@ -123,7 +120,7 @@ module _ (g : Guard) (ok : Accepted g) (s : State) (open′ : OpenLeaf g s) (hel
   pub node-rows : rowsFor (openOf g s (leaf .marks)) ≤ rowsEnough (length (g .types)) (length (g .rows))
   node-rows =
       by-test (ltb 0 (length (g .types)))
-      (λ b. let three : many (ok .limits) (ok .supported) g (ok .wellFormed) + 2 * many (ok .limits) (ok .supported) g (ok .wellFormed) ≡ 3 * length (g .rows) = omega arith in
+      (λ b. let three : length (g .rows) + 2 * length (g .rows) ≡ 3 * length (g .rows) = omega arith in
       let all : freeRows x 78 ≤ (3 * length (g .types) + 29) * (length (g .rows) + 2 * length (g .rows)) =
       all-rows-few x (length (g .rows)) (2 * length (g .rows)) (3 * length (g .types) + 29) (omega (arith, highest, ltb-true 0 (length (g .types)) b)) free-low in
       let most : freeRows x 78 ≤ (3 * length (g .types) + 29) * (3 * length (g .rows)) = subst (λ (k : ℕ). freeRows x 78 ≤ (3 * length (g .types) + 29) * k) three all in

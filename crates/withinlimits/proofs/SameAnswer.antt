@@ -1,6 +1,6 @@
 -- A file within limits is read the same way under larger ones: only the three questions about T, N and L look at the limits, and
 -- each gets a yes from both. So the answer is the same, where each caller's buffers are long enough. Assumes nothing.
-use mathlib.Core.Path.{_≡_, refl, ap, ap₂, sym, _∙_}
+use mathlib.Core.Path.{_≡_, refl, ap, sym, _∙_}
 use mathlib.Core.Bool.{Bool, true, _&&_}
 use mathlib.Core.List.{List, []}
 use Prim.Native.Nat.{ℕ, _≤_}
@@ -8,7 +8,7 @@ use native.Mathlib.Omega.{arith}
 use lib.Dec.{leb}
 use borrow.Author.Tests.{le-leb, leb-true}
 use Rattle.laws.proofs.Bools.{and-both, and-left, and-right}
-use Rattle.guard.specs.Answer.{afterQuestions, outcome, questions}
+use Rattle.guard.specs.Answer.{afterQuestions, outcome}
 use Rattle.guard.specs.File.{file, literal, rows, types}
 use Rattle.guard.specs.Grammar.{ended}
 use Rattle.guard.specs.Guard.{Guard, Literal, Row}
@@ -16,7 +16,7 @@ use Rattle.guard.specs.Limits.{Limits, placeBuffer, rowBuffer}
 use Rattle.guard.specs.Number.{Parsed, Parsed.accepted, Parsed.refused, Parser, _>>=_, _>>_, andThen, ask, return, times, unsigned}
 use Rattle.guard.specs.Types.{Types, allDefaults, infiniteFields}
 use Rattle.guard.proofs.AnswerLaws.{long-buffers}
-use Rattle.withinlimits.specs.Within.{Smaller, asFarAsRead, linesWithin, rowsWithin, typesWithin, within}
+use Rattle.withinlimits.specs.Within.{Smaller, asFarAsRead, linesWithin, rowsWithin, within}
 
 -- ---- two ways to go on that agree wherever the test holds
 

@@ -1,6 +1,4 @@
 -- `row_buffer` meets its contract. Assumes nothing.
-use native.Mathlib.Omega.{arith}
-use borrow.Author.Needs.{needs}
 use Rattle.decidewithin.proofs.Buffers.{few-of-both, many-terms, many-types}
 use Rattle.decidewithin.proofs.row_buffer.Statement.{statement}
 use Rattle.decidewithin.proofs.row_buffer.Tie as tie
