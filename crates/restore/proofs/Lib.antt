@@ -5,3 +5,4 @@ pub mod BoundLaws
 pub mod FileLaws
 pub mod CallLaws
 pub mod ScratchLaws
+pub mod Corollaries
