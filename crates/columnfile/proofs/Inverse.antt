@@ -49,7 +49,7 @@ each-row f rs = concat-map f (rowAt rs) (from (length rs) 0) ∙ ap (concatMap f
 -- ---- parts of a file
 
 -- what a parser takes from tokens, it takes from their bytes
-from-tokens : {A : Type 0} (p : Parser A) (ks : List Token) (a : A) → Takes as-bytes p ks a → Gives p (concatMap tokenBytes ks) a
+pub from-tokens : {A : Type 0} (p : Parser A) (ks : List Token) (a : A) → Takes as-bytes p ks a → Gives p (concatMap tokenBytes ks) a
 unfolding TakesBefore as-bytes
 from-tokens p ks a h = record { takes = λ left. h left tt }
 

@@ -47,7 +47,7 @@ its-column : (cs : List (List ℕ)) (xs : List ℕ) (b : ℕ) → numberIn (cs +
 its-column [] xs b = refl
 its-column (c ∷ cs) xs b = its-column cs xs b
 
-other-number : (xs : List ℕ) (x b : ℕ) → ¬ (b ≡ length xs) → getD (xs ++ (x ∷ [])) b 0 ≡ getD xs b 0
+pub other-number : (xs : List ℕ) (x b : ℕ) → ¬ (b ≡ length xs) → getD (xs ++ (x ∷ [])) b 0 ≡ getD xs b 0
 other-number [] x zero n = absurd (n refl)
 other-number [] x (suc b) n = refl
 other-number (y ∷ xs) x zero n = refl
