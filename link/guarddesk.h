@@ -3,7 +3,7 @@
  * cannot, a record of every branch that was tried, and a check of such records. And a writer of guard files, for programs that
  * make guards, and a merge of two guards that have to hold at once. guarddesk_load is the desk's call for less memory.
  *
- * Six functions, in libdesklink.a (x86-64 Linux). What they give is proved for every file, budget, record, list and buffer length;
+ * Eight functions, in libdesklink.a (x86-64 Linux). What they give is proved for every file, budget, record, list and buffer length;
  * docs/EMBEDDING.md says what rests on what.
  *
  *   - They allocate nothing, keep nothing between calls and call nothing but memcpy and memset. Calls in several
@@ -195,6 +195,25 @@ int64_t guarddesk_write(const int64_t *list, size_t list_length, uint8_t *out, s
  */
 int64_t guarddesk_merge(const uint8_t *first, size_t first_length, const uint8_t *second, size_t second_length,
                         uint8_t *out, size_t out_length);
+
+/*
+ * Stores a guard file with its term rows by column, for slow memory: behind the number of terms all kinds in row order, then all second
+ * numbers, then third to sixth, missing ones left out; all other numbers keep their order. guarddesk_restore gives the file back.
+ *
+ * It returns how many bytes are stored, as many as the file has. They stand in front of out, and bytes behind them are 0.
+ * GUARDDESK_FILE_LENGTH bytes always suffice. Otherwise it returns a number below 0, minus the first question that got a no, and all of out
+ * is 0: -2 to -10 as for guarddesk_decide, then -14 if the stored bytes are more than out_length.
+ *
+ * The caller owes what guarddesk_decide asks, for these two areas.
+ */
+int64_t guarddesk_store(const uint8_t *file, size_t file_length, uint8_t *out, size_t out_length);
+
+/*
+ * The way back: the file that these bytes are stored of, in front of out, with the same result as guarddesk_store's. Bytes that are
+ * stored of no file get -2 to -10: up to the number of terms as a file does; in the columns each number is asked 2 and 3, each kind 6, and a
+ * built term's type and variant 5 and 7; then the restored file is asked whole; -14 last.
+ */
+int64_t guarddesk_restore(const uint8_t *stored, size_t stored_length, uint8_t *out, size_t out_length);
 
 #ifdef __cplusplus
 }

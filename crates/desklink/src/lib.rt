@@ -2,13 +2,15 @@
 // `specs/Links.antt` says what it gives, link/guarddesk.h declares it for C, link/rust wraps it for Rust.
 ghost use mathlib.Core.Path.{_≡_};
 ghost use lib.ListN.{length};
+ghost use Rattle.guard.specs.File.{file};
 ghost use Rattle.guard.specs.Limits.{base};
 ghost use Rattle.decidewithin.specs.CallerLimits.{loader};
 ghost use Rattle.refutations.specs.Checker.{checked};
 ghost use Rattle.recordchecker.specs.Checks.{answer};
 ghost use Rattle.serialize.specs.NumberList.{listFile};
-ghost use Rattle.filewriter.specs.Writer.{answerTo, leftBy};
+ghost use Rattle.filewriter.specs.Writer.{answerBy, answerTo, leftBy, leftWith};
 ghost use Rattle.merged.specs.Merge.{mergedFile};
+ghost use Rattle.columnfile.specs.Columns.{restoredFile, storedBytes};
 ghost use Rattle.desklink.specs.Links.{Links, LinksExplained, writtenCode};
 ghost use Rattle.returncodes.specs.Code.{minus};
 
@@ -102,5 +104,27 @@ pub extern "C" fn guarddesk_merge(first: &[u8], second: &[u8], out: &mut [u8]) -
     ensures { λ r. ⌜ now (out .exit) ≡ leftBy (mergedFile base (now (first .entry)) (now (second .entry))) (length (now (out .entry))) ⌝ }
 {
     let w = merge::merge(first, second, out);
+    returncodes::code_of(w.refused, w.bytes)
+}
+
+// A guard file with its term rows by column, for slow memory, into `out`, zeros behind it. Returns the number of stored bytes, or minus the
+// number of the first question that gets a no; then `out` is all 0.
+#[no_mangle]
+pub extern "C" fn guarddesk_store(bytes: &[u8], out: &mut [u8]) -> i64
+    ensures { λ r. ⌜ r ≡ writtenCode (answerBy storedBytes (file base (now (bytes .entry))) (length (now (out .entry)))) ⌝ }
+    ensures { λ r. ⌜ now (out .exit) ≡ leftWith storedBytes (file base (now (bytes .entry))) (length (now (out .entry))) ⌝ }
+{
+    let w = store::store(bytes, out);
+    returncodes::code_of(w.refused, w.bytes)
+}
+
+// The guard file back from its stored bytes, into `out`, zeros behind it. Returns the number of its bytes, or minus the number of the first
+// question that gets a no; then `out` is all 0.
+#[no_mangle]
+pub extern "C" fn guarddesk_restore(stored: &[u8], out: &mut [u8]) -> i64
+    ensures { λ r. ⌜ r ≡ writtenCode (answerTo (restoredFile base (now (stored .entry))) (length (now (out .entry)))) ⌝ }
+    ensures { λ r. ⌜ now (out .exit) ≡ leftBy (restoredFile base (now (stored .entry))) (length (now (out .entry))) ⌝ }
+{
+    let w = restore::restore(stored, out);
     returncodes::code_of(w.refused, w.bytes)
 }
