@@ -12,9 +12,9 @@ use Rattle.laws.specs.All.{All, All.more, All.none}
 use Rattle.laws.specs.Lists.{concatMap, from}
 use Rattle.laws.proofs.Lists.{all-append, all-concatMap, all-map, from-bounds, from-length, map-from-length}
 use Rattle.guard.specs.File.{count, file, rows}
-use Rattle.guard.specs.Guard.{Guard}
+use Rattle.guard.specs.Guard.{Guard, Row}
 use Rattle.guard.specs.Limits.{base}
-use Rattle.guard.specs.Number.{Parsed, Parsed.accepted, Parsed.refused, Parser, _>>_, andThen, ask}
+use Rattle.guard.specs.Number.{Parsed, Parsed.accepted, Parsed.refused, Parser, _>>_, andThen, ask, return}
 use Rattle.guard.specs.Types.{Types, allDefaults, infiniteFields}
 use Rattle.guard.proofs.Claims.{base-supported}
 use Rattle.tables.specs.declared.TypeTable.{TypeTable}
@@ -24,7 +24,8 @@ use Rattle.serialize.proofs.Theorems.{file-numbers}
 use Rattle.merged.specs.Merge.{typePart}
 use Rattle.typereader.specs.TypeReader.{typesPart}
 use Rattle.rowreader.specs.RowReader.{countedRows}
-use Rattle.reader.proofs.FileParts.{afterFacts, afterTypes, file-parts}
+use Rattle.headreader.specs.Head.{Head, rowsBehind}
+use Rattle.reader.proofs.FileParts.{afterHead, file-parts}
 use Rattle.columnfile.specs.Columns.{bytesFor, numberIn, restoredRow, restoredRows, width}
 use Rattle.columnfile.proofs.Inverse.{count-back}
 use Rattle.columnfile.proofs.Settles.{Settles, Settles.stops, Settles.takes, settles-after, settles-same}
@@ -126,13 +127,21 @@ module _ {table : TypeTable} {n : ℕ} {cells : List ℕ} {ts : Types} {cs : Lis
       ap (andThen (afterRows ts)) (h rest)
       ∙ sym (ap (λ (l : List ℕ). andThen (λ us left. afterRows ts us rest) (countedRows 24 ts l)) (sym (append-nil rowsBytes)) ∙ ap (andThen (λ us left. afterRows ts us rest)) (h []))
 
+  behind-rows : (r : Parsed (List Row)) → andThen (afterHead base) (andThen (λ rs. return (record { types = ts; rows = rs })) r) ≡ andThen (afterRows ts) r
+  behind-rows (refused q) = refl
+  behind-rows (accepted rs left) = refl
+
+  abbrev headFrom : Types → Parser Head
+  headFrom us = ask 8 (allDefaults us) >> (ask 9 (infiniteFields us) >> rowsBehind 24 us)
+
   -- "the rest are asked of the restored file"
   pub file-asked : (rest : List ℕ) → file base (headOf ts n cs ++ rest) ≡ askedOf ts rowsBytes rest
   file-asked rest =
       ap (file base) (append-assoc (typePart ts) rowsBytes rest) ∙ file-parts base (typePart ts ++ (rowsBytes ++ rest))
-      ∙ ap (andThen (afterTypes base)) (types-back (k .taken) .takes (rowsBytes ++ rest))
-      ∙ ap (λ (b : Bool). (ask 8 b >> (ask 9 (infiniteFields ts) >> afterFacts base ts)) (rowsBytes ++ rest)) (k .taken .ready)
-      ∙ ap (λ (b : Bool). (ask 9 b >> afterFacts base ts) (rowsBytes ++ rest)) (k .taken .infinite) ∙ by-settled settled rest
+      ∙ ap (λ (p : Parsed Types). andThen (afterHead base) (andThen headFrom p)) (types-back (k .taken) .takes (rowsBytes ++ rest))
+      ∙ ap (λ (b : Bool). andThen (afterHead base) ((ask 8 b >> (ask 9 (infiniteFields ts) >> rowsBehind 24 ts)) (rowsBytes ++ rest))) (k .taken .ready)
+      ∙ ap (λ (b : Bool). andThen (afterHead base) ((ask 9 b >> rowsBehind 24 ts) (rowsBytes ++ rest))) (k .taken .infinite)
+      ∙ behind-rows (countedRows 24 ts (rowsBytes ++ rest)) ∙ by-settled settled rest
 
   head-bytes : All (λ b. b < 256) (headOf ts n cs)
   unfolding typePart
