@@ -172,3 +172,19 @@ module _ {types : TypeTable} {rows : RowTable} {lines : LiteralTable} (g : Guard
                   → record { refused = 0; literals = made } ≡ asLine (andThen (λ l. ended >> return (withMore g (l ∷ []))) r)
               go (refused q) f e = let z : q ≡ 0 = ap (λ (x : LiteralsRead). x .refused) e in absurd (omega (arith, tidy-literal ts rs .asks line q f))
               go (accepted l rest) f e = ending l rest e
+
+-- no question has number 0
+pub line-question : (g : Guard) (line : List ℕ) (q : ℕ) → addedLine g line ≡ refused q → 0 < q
+line-question g line q e = asked (ltb (length (g .literals)) 32) e
+  where
+    ending : (l : Literal) (rest : List ℕ) → (ended >> return (withMore g (l ∷ []))) rest ≡ refused q → 0 < q
+    ending l [] e = let z : _≡_ {A = ℕ} 0 1 = cc in absurd (omega arith)
+    ending l (b ∷ rest) e = let z : 10 ≡ q = cc in omega arith
+
+    read : (r : Parsed Literal) → literal (g .types) (g .rows) line ≡ r → andThen (λ l. ended >> return (withMore g (l ∷ []))) r ≡ refused q → 0 < q
+    read (refused z) f e = let y : z ≡ q = cc in omega (arith, tidy-literal (g .types) (g .rows) .asks line z f)
+    read (accepted l rest) f e = ending l rest e
+
+    asked : (b : Bool) → (ask 4 b >> (literal (g .types) (g .rows) >>= λ l. ended >> return (withMore g (l ∷ [])))) line ≡ refused q → 0 < q
+    asked true e = read (literal (g .types) (g .rows) line) refl e
+    asked false e = let z : 4 ≡ q = cc in omega arith
