@@ -1,0 +1,4 @@
+pub mod Summary
+pub mod AddedLine
+pub mod SummaryCases
+pub mod InTables
