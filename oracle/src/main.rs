@@ -13,7 +13,7 @@ use oracle::order::{self, Rule, Size};
 use oracle::problem::Problem;
 use oracle::random::Random;
 use oracle::read::Question;
-use oracle::vectors::{self, lists, loads, merges, records, Vector, USUAL_BUDGET};
+use oracle::vectors::{self, lists, loads, merges, records, summaries, Vector, USUAL_BUDGET};
 use oracle::{list, read, record, smt, tables, text};
 
 const USAGE: &str = "\
@@ -43,6 +43,8 @@ usage: oracle answer FILE [--budget N]        the answer to a guard file
        oracle merges [--check] DIR            writes or checks DIR/merges.txt, with
                                               guards of DIR/vectors.txt
        oracle loads [--check] DIR             writes or checks DIR/loads.txt, with
+                                              files of DIR/vectors.txt
+       oracle summaries [--check] DIR         writes or checks DIR/summaries.txt, with
                                               files of DIR/vectors.txt
        oracle pack VECTORS OUT                packs vectors into one binary file
        oracle tables [--check] VECTORS DIR    writes or checks DIR/stdin, the packed
@@ -112,6 +114,8 @@ fn run(words: &[&str]) -> Result<(), Failure> {
         ["merges", dir] => write_kept(&MERGES, dir),
         ["loads", "--check", dir] => check_kept(&LOADS, dir),
         ["loads", dir] => write_kept(&LOADS, dir),
+        ["summaries", "--check", dir] => check_kept(&SUMMARIES, dir),
+        ["summaries", dir] => write_kept(&SUMMARIES, dir),
         ["pack", vectors, out] => pack_command(vectors, out),
         ["tables", "--check", vectors, dir] => check_run(vectors, dir, tables::summaries),
         ["tables", vectors, dir] => write_run(vectors, dir, tables::summaries),
@@ -368,6 +372,15 @@ const LOADS: Kept = Kept {
     make: |dir| {
         let all = loads::all(&vectors_of(dir)?);
         Ok((loads::text(&all), all.len()))
+    },
+};
+
+const SUMMARIES: Kept = Kept {
+    name: "summaries.txt",
+    what: "summaries",
+    make: |dir| {
+        let all = summaries::all(&vectors_of(dir)?);
+        Ok((summaries::text(&all), all.len()))
     },
 };
 

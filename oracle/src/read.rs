@@ -86,6 +86,16 @@ pub fn read(file: &[u8], limits: Limits) -> Result<Guard, Question> {
     read_numbers(File { rest: file }, limits)
 }
 
+/// Request #114: a line alone, of a guard's terms.
+pub fn read_line(bytes: &[u8], guard: &Guard) -> Result<Line, Question> {
+    let mut reader = Reader {
+        numbers: File { rest: bytes },
+    };
+    let line = reader.line(guard)?;
+    Question::FileEnded.ask(reader.numbers.ended())?;
+    Ok(line)
+}
+
 /// The guard of which these are the numbers.
 pub fn read_numbers(numbers: impl Numbers, limits: Limits) -> Result<Guard, Question> {
     let mut reader = Reader { numbers };

@@ -11,6 +11,7 @@ mod numbers;
 pub mod profiles;
 pub mod records;
 mod splits;
+pub mod summaries;
 mod walks;
 pub mod written;
 
