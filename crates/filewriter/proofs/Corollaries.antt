@@ -35,7 +35,7 @@ module _ (zs : List ℤ) (n : ℕ) (z : answerTo (listFile base zs) n .refused �
       go (refused q) e = absurd (omega (arith, list-question base zs q e, sym (ap (λ (p : Parsed Guard). answerTo p n .refused) e) ∙ z))
       go (accepted g rest) e =
           let (back, same) = read-as-list base base-supported zs g rest e in
-          (g, ap (file base) (bytes-back e n z) ∙ back, same, taken-numbers base zs g rest e .1)
+          (g, ap (file base) (bytes-back bytesOf e n z) ∙ back, same, taken-numbers base zs g rest e .1)
 
   -- "The desk reads the bytes back as that list": the bytes that stand in the buffer are a file of a guard whose numbers are the list
   pub written-read : (g : Guard) × (file base produced ≡ accepted g []) × (numbersOf g ≡ zs)
@@ -57,7 +57,7 @@ pub read-written : (bs : List ℕ) (g : Guard) (rest : List ℕ) (n : ℕ) → A
 read-written bs g rest n small e one fits =
     let (taken, same) = same-bytes base base-supported bs g rest small e one in
     let room : leb (length (bytesOf g)) n ≡ true = ap (λ (l : List ℕ). leb (length l) n) same ∙ le-leb (length bs) n fits in (
-      ap (λ (p : Parsed Guard). answerTo p n) taken ∙ by-length g [] n true room
+      ap (λ (p : Parsed Guard). answerTo p n) taken ∙ by-length bytesOf g [] n true room
           ∙ ap (λ (l : List ℕ). record { refused = 0; bytes = length l }) same,
       ap (λ (p : Parsed Guard). leftBy p n) taken ∙ filled-with (bytesOf g) n room ∙ ap (λ (l : List ℕ). l ++ replicate (n - length l) 0) same,
     )
@@ -72,7 +72,7 @@ written-bytes : (zs : List ℤ) (g : Guard) (rest : List ℕ) → listFile base 
 written-bytes zs g rest e = at-most-585 (bytesOf g) g [] (read-as-list base base-supported zs g rest e .0)
 
 pub few-bytes : (zs : List ℤ) (n : ℕ) → answerTo (listFile base zs) n .bytes ≤ 585
-few-bytes zs n = few-told (listFile base zs) n 585 (written-bytes zs)
+few-bytes zs n = few-told bytesOf (listFile base zs) n 585 (written-bytes zs)
 
 pub never-short : (zs : List ℤ) (g : Guard) (rest : List ℕ) (n : ℕ) → listFile base zs ≡ accepted g rest → 585 ≤ n → answerTo (listFile base zs) n .refused ≡ 0
-never-short zs g rest n e h = room-told e n (omega (arith, written-bytes zs g rest e))
+never-short zs g rest n e h = room-told bytesOf e n (omega (arith, written-bytes zs g rest e))

@@ -135,14 +135,14 @@ module _ (first second : List ℕ) (n : ℕ) where
       go : (p : Parsed Guard) → mergedFile base first second ≡ p
           → (m : Guard) × Merges first second m × (file base (take (answerTo (mergedFile base first second) n .bytes) (leftBy (mergedFile base first second) n)) ≡ accepted m [])
       go (refused q) e = absurd (merge-question first second q e (sym (ap (λ (x : Parsed Guard). answerTo x n .refused) e) ∙ z))
-      go (accepted m rest) e = let k = merges first second m rest e in (m, k, ap (file base) (bytes-back e n z) ∙ merged-accepted k)
+      go (accepted m rest) e = let k = merges first second m rest e in (m, k, ap (file base) (bytes-back bytesOf e n z) ∙ merged-accepted k)
 
   -- no file has more than 585 bytes, so a buffer of 585 is never too short
   merged-bytes : (m : Guard) (rest : List ℕ) → mergedFile base first second ≡ accepted m rest → length (bytesOf m) ≤ 585
   merged-bytes m rest e = at-most-585 (bytesOf m) m [] (merged-accepted (merges first second m rest e))
 
   pub few-merged : answerTo (mergedFile base first second) n .bytes ≤ 585
-  few-merged = few-told (mergedFile base first second) n 585 merged-bytes
+  few-merged = few-told bytesOf (mergedFile base first second) n 585 merged-bytes
 
   pub never-short : (m : Guard) (rest : List ℕ) → mergedFile base first second ≡ accepted m rest → 585 ≤ n → answerTo (mergedFile base first second) n .refused ≡ 0
-  never-short m rest e h = room-told e n (omega (arith, merged-bytes m rest e))
+  never-short m rest e h = room-told bytesOf e n (omega (arith, merged-bytes m rest e))

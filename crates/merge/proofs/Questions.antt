@@ -12,16 +12,13 @@ use Rattle.guard.specs.File.{file}
 use Rattle.guard.specs.Guard.{Guard}
 use Rattle.guard.specs.Limits.{base}
 use Rattle.guard.specs.Number.{Parsed, Parsed.accepted, Parsed.refused}
-use Rattle.guard.proofs.Accepted.{accepted-well-formed}
-use Rattle.guard.proofs.Claims.{base-supported}
-use Rattle.tables.proofs.AcceptedTotal.{accepted-total}
 use Rattle.reader.specs.declared.Tables.{Tables}
 use Rattle.reader.specs.Reader.{tablesAt}
-use Rattle.reader.proofs.TablesRead.{guard-tables, refused-file, taken-file}
+use Rattle.reader.proofs.TablesRead.{refused-file}
 use Rattle.merged.specs.Merge.{asked, askedOfSame, hasRoom, merged, mergedBy, mergedFile, sameBytes, sameVariables, typePart}
 use Rattle.renaming.specs.declared.Names.{Names}
 use Rattle.renaming.specs.Names.{NamesOf}
-use Rattle.mergewriter.specs.Merging.{BothOf, TablesOf}
+use Rattle.mergewriter.specs.Merging.{BothOf}
 use Rattle.mergewriter.proofs.Held.{names-are}
 use Rattle.mergewriter.proofs.MergedBytes.{lines-sum, row-count}
 use Rattle.merge.specs.Questions.{questionIn}
@@ -83,23 +80,6 @@ module _ {first second : Tables} {g h : Guard} (b : BothOf first second g h) {n 
       (λ a. absurd (omega (arith, z ∙ asked-is false (leb (n .rows) 24) (leb lines 32) a refl refl)))
 
 -- ---- two files
-
--- a file that is taken, with the tables of its guard
-pub record Opened (bytes : List ℕ) (t : Tables) : Type 0 where
-  pub guard : Guard
-  pub rest : List ℕ
-  pub is : file base bytes ≡ accepted guard rest
-  pub tables : TablesOf t guard
-
-pub opened : (bytes : List ℕ) (t : Tables) → t ≡ tablesAt base bytes → t .refused ≡ 0 → Opened bytes t
-opened bytes t is z =
-    let (g, rest, e) = taken-file base bytes t is z in
-    record {
-      guard = g;
-      rest = rest;
-      is = e;
-      tables = record { are = guard-tables base bytes t is g rest e; fits = accepted-well-formed base base-supported bytes g rest e; total = accepted-total base bytes g rest e };
-    }
 
 module _ (first second : List ℕ) where
   by-files : (p r : Parsed Guard) → file base first ≡ p → file base second ≡ r → mergedFile base first second ≡ mergedBy base p r

@@ -9,7 +9,7 @@ ghost use Rattle.laws.specs.Lists.{from};
 ghost use Rattle.mergewriter.specs.Merging.{Merging, PutsAllLiterals, PutsAllRows, PutsMerged};
 
 // Each row under its own number.
-fn own_names() -> [u8; 24]
+pub fn own_names() -> [u8; 24]
     ensures { λ r. ⌜ r ≡ from 24 0 ⌝ }
 {
     [

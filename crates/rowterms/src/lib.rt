@@ -49,7 +49,7 @@ fn put_parts(
 }
 
 // How many parts a built row has: as many as its variant has fields.
-fn part_count(types: TypeTable, rows: RowTable, r: usize) -> usize
+pub fn part_count(types: TypeTable, rows: RowTable, r: usize) -> usize
     requires { ⌜ BuiltRow types rows r ⌝ }
     ensures { λ n. ⌜ PartCount types rows r n ⌝ }
 {

@@ -45,6 +45,14 @@ all-some : (xs : List (Option Message)) → ((i : ℕ) → i < length xs → (m 
 all-some [] h = refl
 all-some (x ∷ xs) h = and-true (isSome x) (all isSome xs) (ap isSome (h 0 (omega arith) .1)) (all-some xs (λ i l. h (suc i) (omega (arith, l))))
 
+-- the types of a well-formed guard fit, and have their defaults
+module _ {limits : Limits} {g : Guard} (w : WellFormed limits g) where
+  pub types-fit : All (TypeFits (length (g .types))) (g .types)
+  types-fit = all-at (g .types) [] (λ t. (w .variantCounts t, all-at (variantsOf (g .types) t) [] (λ v. (w .fieldCounts t v, w .fieldTypes t v))))
+
+  pub all-ready : allDefaults (g .types) ≡ true
+  all-ready = all-some (defaults (g .types)) (λ t h. w .ready t (omega (arith, h, defaults-length (length (g .types)) (g .types))))
+
 module _ (f : Form) where
   abbrev s : Source
   s = f .src
@@ -54,7 +62,7 @@ module _ (f : Form) where
 
   -- ---- counts, names and kinds
 
-  takes-count : (most n : ℕ) → n ≤ width32 .most → n ≤ most → Takes f (count s most) (plain n ∷ []) n
+  pub takes-count : (most n : ℕ) → n ≤ width32 .most → n ≤ most → Takes f (count s most) (plain n ∷ []) n
   takes-count most n small h = takes-number f Anything 4 n (λ i. leb i most) (λ i. return i) [] n small (le-leb n most h) (takes-return f Anything n)
 
   takes-name : (many n : ℕ) → many ≤ width32 .most → n < many → Takes f (name s many) (plain n ∷ []) n
@@ -75,7 +83,7 @@ module _ (f : Form) where
       (subst (λ (ks : List Token). Takes f (times (length fs) (name s many)) ks fs) (each-plain fs)
       (takes-times f (name s many) (λ n. plain n ∷ []) fs (all-of fs (λ n m. takes-name many n small (all-mem (h .1) n m)))))
 
-  takes-types : (many total : ℕ) (ts : Types) → many ≤ width32 .most → All (TypeFits many) ts → total + length (concatMap (λ (vs : List Variant). vs) ts) ≤ totalVariantLimit
+  pub takes-types : (many total : ℕ) (ts : Types) → many ≤ width32 .most → All (TypeFits many) ts → total + length (concatMap (λ (vs : List Variant). vs) ts) ≤ totalVariantLimit
       → Takes f (types s (length ts) many total) (concatMap typeTokens ts) ts
   takes-types many total [] small fit few = takes-return f Anything []
   takes-types many total (vs ∷ ts) small (more h hs) few =
@@ -202,8 +210,8 @@ module _ (f : Form) where
   unfolding guardTokens
   takes-file limits sup g w total =
       takes-bind f Ends (count s (limits .types)) _ (plain (length ts) ∷ []) _ (length ts) g (takes-count (limits .types) (length ts) (omega (arith, w .typeCount, sup .types)) (w .typeCount))
-      (takes-bind f Ends (types s (length ts) (length ts) 0) _ (concatMap typeTokens ts) _ ts g (takes-types (length ts) 0 ts (omega (arith, w .typeCount, sup .types)) fit (omega (arith, total)))
-      (takes-asked f Ends 8 (allDefaults ts) _ _ g all-ready
+      (takes-bind f Ends (types s (length ts) (length ts) 0) _ (concatMap typeTokens ts) _ ts g (takes-types (length ts) 0 ts (omega (arith, w .typeCount, sup .types)) (types-fit w) (omega (arith, total)))
+      (takes-asked f Ends 8 (allDefaults ts) _ _ g (all-ready w)
       (takes-asked f Ends 9 (infiniteFields ts) _ _ g (w .infinite)
       (takes-bind f Ends (count s (limits .terms)) _ (plain (length rs) ∷ []) _ (length rs) g (takes-count (limits .terms) (length rs) (omega (arith, w .termCount, sup .terms)) (w .termCount))
       (takes-bind f Ends (rows s (length rs) ts []) _ (concatMap rowTokens rs) _ rs g (takes-rows ts few (w .variantCounts) (w .fieldCounts) [] rs (omega (arith, w .termCount, sup .terms)) (fit-after ts [] rs (w .rows)))
@@ -226,9 +234,3 @@ module _ (f : Form) where
 
       few : length ts ≤ 6
       few = omega (arith, w .typeCount, sup .types)
-
-      fit : All (TypeFits (length ts)) ts
-      fit = all-at ts [] (λ t. (w .variantCounts t, all-at (variantsOf ts t) [] (λ v. (w .fieldCounts t v, w .fieldTypes t v))))
-
-      all-ready : allDefaults ts ≡ true
-      all-ready = all-some (defaults ts) (λ t h. w .ready t (omega (arith, h, defaults-length (length ts) ts)))

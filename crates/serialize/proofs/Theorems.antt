@@ -34,11 +34,11 @@ use Rattle.serialize.proofs.TakenFile.{takes-file}
 
 -- ---- bytes
 
-at-most : (bs : List ℕ) (n : ℕ) (rest : List ℕ) → unsignedOf valueWidth bs ≡ accepted n rest → n ≤ valueWidth .most
+pub at-most : (bs : List ℕ) (n : ℕ) (rest : List ℕ) → unsignedOf valueWidth bs ≡ accepted n rest → n ≤ valueWidth .most
 unfolding Reads
 at-most bs n rest e = let (u, l, h) = reads-unsigned-of valueWidth bs n rest e in h .0
 
-as-bytes : Form
+unfoldable pub as-bytes : Form
 as-bytes =
     record {
       src = bytes;
@@ -132,7 +132,7 @@ module _ (limits : Limits) (sup : Supported limits) where
       let (ks, is, fit, same, good, back) = copies-file as-list as-bytes limits sup (map foldSigned zs) g rest (all-anything (map foldSigned zs)) e in subst (All Fits) is fit
 
   -- the numbers of a file are taken as a file's, and have its bytes
-  file-numbers : (bs : List ℕ) (g : Guard) (rest : List ℕ) → All (λ b. b < 256) bs → file limits bs ≡ accepted g rest → (fileOf numberList limits (map foldSigned (numbersOf g)) ≡ accepted g []) × (bytesOf g ≡ bs)
+  pub file-numbers : (bs : List ℕ) (g : Guard) (rest : List ℕ) → All (λ b. b < 256) bs → file limits bs ≡ accepted g rest → (fileOf numberList limits (map foldSigned (numbersOf g)) ≡ accepted g []) × (bytesOf g ≡ bs)
   unfolding file bytesOf numbersOf Copies Ends as-bytes as-list
   file-numbers bs g rest small e =
       let (ks, is, fit, same, good, back) = copies-file as-bytes as-list limits sup bs g rest small e in

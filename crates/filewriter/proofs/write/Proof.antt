@@ -10,7 +10,7 @@ use borrow.Author.Tests.{not-false, not-true}
 use Rattle.reader.specs.declared.Tables.{Tables}
 use Rattle.guard.specs.Limits.{base}
 use Rattle.serialize.specs.NumberList.{listFile}
-use Rattle.serialize.specs.Tokens.{guardTokens}
+use Rattle.serialize.specs.Tokens.{bytesOf, guardTokens}
 use Rattle.valuemarks.specs.Marks.{untilLines}
 use Rattle.filewriter.specs.Marking.{Marked}
 use Rattle.filewriter.proofs.Answers.{answers-refused, answers-short, answers-written}
@@ -32,7 +32,7 @@ returns : tie.Need-returns
 returns c =
     let r = c .before .before in
     let h : ¬ (r .read-list .result .refused ≡ 0) = c .if1 .taken in
-    let a = answers-refused (refused-list (listFile base (list-of r)) (r .read-list .result) (r .read-list .ensures .0) h) (length (out-of r)) (cleared-of r .clear .ensures) in
+    let a = answers-refused bytesOf (refused-list (listFile base (list-of r)) (r .read-list .result) (r .read-list .ensures .0) h) (length (out-of r)) (cleared-of r .clear .ensures) in
     (a .0, (r .read-list .ensures .1, a .1))
 
 -- the list is taken
@@ -71,7 +71,7 @@ returns-2 c =
     let r = m .before .before .before .before .before .before in
     let w = p .put-numbers .ensures .puts _ (marked-by m) in
     let f = not-true _ (t .if2 .taken) in
-    let a = answers-short (k .is) (out-of r) (cleared-of r .clear .ensures) (file-puts k w) f (cl .clear2 .ensures) in
+    let a = answers-short bytesOf (k .is) (out-of r) (cleared-of r .clear .ensures) (file-puts k w) f (cl .clear2 .ensures) in
     (a .0, ((λ e. omega arith), a .1))
 
 returns-3 : tie.Need-returns-3
@@ -82,7 +82,7 @@ returns-3 c =
     let r = m .before .before .before .before .before .before in
     let w = p .put-numbers .ensures .puts _ (marked-by m) in
     let f = not-false _ (c .if2 .left) in
-    let a = answers-written (k .is) (out-of r) (cleared-of r .clear .ensures) (file-puts k w) f in
+    let a = answers-written bytesOf (k .is) (out-of r) (cleared-of r .clear .ensures) (file-puts k w) f in
     (a .0, ((λ e. omega arith), a .1))
 
 pub write-spec : {M : Type 1} → statement M

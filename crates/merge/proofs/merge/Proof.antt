@@ -7,13 +7,14 @@ use native.Mathlib.Omega.{arith}
 use lib.ListN.{length, length-replicate, replicate}
 use borrow.Author.Needs.{needs}
 use borrow.Author.Tests.{not-false, not-true}
+use Rattle.serialize.specs.Tokens.{bytesOf}
 use Rattle.filewriter.specs.Writer.{answerTo, leftBy}
 use Rattle.filewriter.proofs.Answers.{answers-refused}
 use Rattle.merged.specs.Merge.{sameBytes, typePart}
 use Rattle.sametypes.proofs.SamePart.{same-held}
 use Rattle.mergewriter.specs.Merging.{BothOf}
-use Rattle.mergewriter.proofs.Held.{types-held}
-use Rattle.merge.proofs.Questions.{Opened, first-refused, opened, second-refused, types-differ, types-same}
+use Rattle.mergewriter.proofs.Held.{Opened, opened, types-held}
+use Rattle.merge.proofs.Questions.{first-refused, second-refused, types-differ, types-same}
 use Rattle.merge.proofs.merge.Statement.{statement}
 use Rattle.merge.proofs.merge.Tie as tie
 
@@ -45,7 +46,7 @@ returns c =
     let t = c .before in
     let r = t .before .before in
     let s = start-of r in
-    let a = answers-refused (first-refused (s .args .first .now) (s .args .second .now) (r .read .result) (r .read .ensures) (t .if1 .taken)) (length (s .args .out .now)) (cleared-of r .clear .ensures) in
+    let a = answers-refused bytesOf (first-refused (s .args .first .now) (s .args .second .now) (r .read .result) (r .read .ensures) (t .if1 .taken)) (length (s .args .out .now)) (cleared-of r .clear .ensures) in
     (c .refused .ensures ∙ a .0, a .1)
 
 returns-2 : tie.Need-returns-2
@@ -55,7 +56,7 @@ returns-2 c =
     let e = r₂ .before in
     let r = first-of e in
     let s = start-of r in
-    let a = answers-refused (second-refused (s .args .first .now) (s .args .second .now) (first-opened e .is) (r₂ .read2 .result) (r₂ .read2 .ensures) (t .if2 .taken)) (length (s .args .out .now)) (cleared-of r .clear .ensures) in
+    let a = answers-refused bytesOf (second-refused (s .args .first .now) (s .args .second .now) (first-opened e .is) (r₂ .read2 .result) (r₂ .read2 .ensures) (t .if2 .taken)) (length (s .args .out .now)) (cleared-of r .clear .ensures) in
     (c .refused2 .ensures ∙ a .0, a .1)
 
 -- whether the types are the same
@@ -71,7 +72,7 @@ returns-3 c =
     let r = begun e in
     let s = start-of r in
     let differ = sym (compared (t .before)) ∙ not-true _ (t .if3 .taken) in
-    let a = answers-refused (types-differ (s .args .first .now) (s .args .second .now) (first-opened (second-of e .before) .is) (second-opened e .is) differ) (length (s .args .out .now)) (cleared-of r .clear .ensures) in
+    let a = answers-refused bytesOf (types-differ (s .args .first .now) (s .args .second .now) (first-opened (second-of e .before) .is) (second-opened e .is) differ) (length (s .args .out .now)) (cleared-of r .clear .ensures) in
     (c .refused3 .ensures ∙ a .0, a .1)
 
 -- the types are the same

@@ -8,6 +8,7 @@ use borrow.Author.Needs.{needs}
 use borrow.Author.Tests.{not-false, not-true}
 use Rattle.guard.specs.Guard.{Guard}
 use Rattle.guard.specs.Limits.{base}
+use Rattle.serialize.specs.Tokens.{bytesOf}
 use Rattle.filewriter.proofs.Answers.{answers-refused, answers-short, answers-written}
 use Rattle.merged.specs.Merge.{askedOfSame}
 use Rattle.mergewriter.specs.Merging.{BothOf}
@@ -40,7 +41,7 @@ returns c =
     let s = n .before .before in
     record {
       answers = λ g h b.
-          let a = answers-refused (refused-by (askedOfSame base g h) (q .question-of .result) (q .question-of .ensures .is g h b (n .names-of .ensures)) (t .if1 .taken)) (length (s .args .out .now)) (s .pre .1) in
+          let a = answers-refused bytesOf (refused-by (askedOfSame base g h) (q .question-of .result) (q .question-of .ensures .is g h b (n .names-of .ensures)) (t .if1 .taken)) (length (s .args .out .now)) (s .pre .1) in
           (c .refused .ensures ∙ a .0, a .1);
     }
 
@@ -60,7 +61,7 @@ returns-2 c =
     let s = start-of e in
     record {
       answers = λ g h b.
-          let a = answers-short (taken g h (asked e g h b)) (s .args .out .now) (s .pre .1) (w .put-merged .ensures .puts g h b) (not-true _ (t .if2 .taken)) (l .clear .ensures) in
+          let a = answers-short bytesOf (taken g h (asked e g h b)) (s .args .out .now) (s .pre .1) (w .put-merged .ensures .puts g h b) (not-true _ (t .if2 .taken)) (l .clear .ensures) in
           (c .refused2 .ensures ∙ a .0, a .1);
     }
 
@@ -69,7 +70,7 @@ returns-3 c =
     let w = c .before .before .before .before in
     let e = w .before .before in
     let s = start-of e in
-    record { answers = λ g h b. answers-written (taken g h (asked e g h b)) (s .args .out .now) (s .pre .1) (w .put-merged .ensures .puts g h b) (not-false _ (c .if2 .left)) }
+    record { answers = λ g h b. answers-written bytesOf (taken g h (asked e g h b)) (s .args .out .now) (s .pre .1) (w .put-merged .ensures .puts g h b) (not-false _ (c .if2 .left)) }
 
 pub merge-guards-spec : {M : Type 1} → statement M
 merge-guards-spec =

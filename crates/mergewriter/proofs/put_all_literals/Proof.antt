@@ -1,36 +1,28 @@
 -- `put_all_literals`: L, the first's lines, and the second's. Assumes nothing.
-use mathlib.Core.Path.{_≡_, ap, sym, subst, _∙_}
+use mathlib.Core.Path.{_≡_, ap, _∙_}
 use mathlib.Core.List.{List, [], _∷_, map}
-use Prim.Native.Nat.{ℕ, _+_, _<_}
+use Prim.Native.Nat.{ℕ, _+_}
 use native.Mathlib.Omega.{arith}
 use lib.ListN.{length}
 use borrow.Author.Needs.{needs}
 use borrow.Author.Tests.{not-false, not-true}
-use Rattle.laws.specs.Lists.{from}
 use Rattle.laws.proofs.Lists.{all-getD}
 use Rattle.guard.specs.Guard.{Guard}
 use Rattle.reader.specs.declared.Tables.{Tables}
 use Rattle.bytebuffer.specs.Puts.{Puts}
 use Rattle.bytebuffer.proofs.PutLaws.{ends-within, same-bytes}
-use Rattle.literalwriter.specs.LiteralBytes.{SmallNames, SomeLiterals}
-use Rattle.merged.specs.Merge.{merged, named, renamedLiteral}
-use Rattle.merged.proofs.Renumbered.{own-named}
+use Rattle.literalwriter.specs.LiteralBytes.{SmallNames}
+use Rattle.merged.specs.Merge.{merged, renamedLiteral}
 use Rattle.renaming.specs.declared.Names.{Names}
 use Rattle.renaming.specs.Names.{AreNames}
-use Rattle.mergewriter.specs.Merging.{BothOf, Merging, TablesOf, allLiterals}
-use Rattle.mergewriter.proofs.Held.{literals-held, names-are, rows-held, types-held}
+use Rattle.mergewriter.specs.Merging.{BothOf, Merging, allLiterals}
+use Rattle.mergewriter.proofs.Held.{literals-held, names-are, own-small, some-literals}
 use Rattle.mergewriter.proofs.MergedBytes.{added-lines, all-literals, lines-sum, literalsBytes, own-lines}
 use Rattle.mergewriter.proofs.ThreePuts.{Parts, all-put, first-full, second-full}
 use Rattle.mergewriter.proofs.put_all_literals.Statement.{statement}
 use Rattle.mergewriter.proofs.put_all_literals.Tie as tie
 
 -- ---- what a guard and its names give
-
-some-literals : {t : Tables} {g : Guard} → TablesOf t g → SomeLiterals (t .literals)
-some-literals k = record { ts = _; rs = _; ls = _; held = literals-held k; rows = rows-held k .many; variants = types-held k .variants }
-
-own-small : (own : List ℕ) → own ≡ from 24 0 → SmallNames own
-own-small own e = record { small = λ i h. subst (λ (xs : List ℕ). named xs i < 128) (sym e) (omega (arith, h, own-named 24 i h)) }
 
 module _ {first second : Tables} {n : Names} (m : Merging first second n) where
   names-small : SmallNames (n .names)
