@@ -2,7 +2,7 @@
 use mathlib.Core.Path.{_≡_, refl, ap, sym, subst, _∙_}
 use mathlib.Core.Bool.{true}
 use mathlib.Core.List.{List, [], _++_}
-use Prim.Native.Nat.{ℕ, _≤_}
+use Prim.Native.Nat.{ℕ, _+_, _≤_}
 use native.Mathlib.Omega.{arith}
 use lib.ListN.{length, take, length-append}
 use lib.Seq.{take-at}
@@ -38,10 +38,10 @@ module _ {types : TypeTable} {rows : RowTable} {first second : LiteralTable} {g 
 
   module _ {out out′ : List ℕ} {r : End} (long : length out ≡ 681) (w : Puts (bytesOf (withMore g more)) out 0 r out′) where
     fit : r .fits ≡ true
-    fit = w .fits ∙ le-leb (length (bytesOf (withMore g more))) (length out) (omega (arith, long, few-bytes))
+    fit = w .fits ∙ le-leb (0 + length (bytesOf (withMore g more))) (length out) (omega (arith, long, few-bytes))
 
     pub within : r .at ≤ length out′
     within = omega (arith, w .ends fit, w .long, long, few-bytes)
 
     pub the-bytes : take (r .at) out′ ≡ bytesOf (withMore g more)
-    the-bytes = ap (take (r .at)) (w .is fit) ∙ take-at (bytesOf (withMore g more)) _ (r .at) (sym (w .ends fit))
+    the-bytes = ap (take (r .at)) (w .is fit) ∙ take-at (bytesOf (withMore g more)) _ (r .at) (omega (arith, w .ends fit))
