@@ -1,16 +1,18 @@
 -- What follows from the contract of `judge_branches`, for an integrator: each number in the buffer is the verdict on its branch or pair, it
 -- means what the desk's verdict means, and behind the last there is nothing but zeros. Every call ends, since the call is proved. Assumes nothing.
-use mathlib.Core.Path.{_≡_, ap, sym, _∙_}
+use mathlib.Core.Path.{_≡_, refl, ap, sym, _∙_}
+use mathlib.Core.Bool.{Bool, true, false, cond}
 use mathlib.Core.List.{List, []}
 use mathlib.Core.Logic.{_↔_}
 use Prim.Native.Nat.{ℕ, _≤_, _<_}
 use native.Mathlib.Omega.{arith}
+use lib.Dec.{ltb}
 use lib.ListN.{length, getD, length-map, List·getD-append}
 use Rattle.laws.proofs.Lists.{all-getD}
 use Rattle.guard.specs.Guard.{Guard, Literal}
 use Rattle.guard.specs.Limits.{Supported, base}
 use Rattle.guard.specs.Meaning.{Satisfiable}
-use Rattle.guard.specs.Number.{Parsed.accepted}
+use Rattle.guard.specs.Number.{Parsed, Parsed.accepted, Parsed.refused}
 use Rattle.guard.specs.Search.{nodeCount}
 use Rattle.guard.specs.WellFormed.{WellFormed}
 use Rattle.guard.proofs.Accepted.{headGuard, with-literals, withLines}
@@ -19,15 +21,39 @@ use Rattle.tables.proofs.Columns.{pad-get, pad-past}
 use Rattle.verdictcodes.specs.Codes.{codeFor}
 use Rattle.verdictcodes.proofs.Meaning.{sat-code, some-code, spent-code, unsat-code}
 use Rattle.branches.specs.Procedure.{Procedure, guardWith, procedure}
-use Rattle.branches.specs.Verdicts.{asked, asksOf, codes, leftIn, pairs}
+use Rattle.branches.specs.Verdicts.{asked, asksOf, bufferLength, codes, leftIn, pairs}
 use Rattle.branches.proofs.Fits.{ProcedureFits, accepted-fits, asked-fit}
+use Rattle.branchverdicts.specs.Judging.{answerTo}
+use Rattle.branchverdicts.specs.declared.Judged.{Judged}
 use Rattle.branchverdicts.proofs.Asking.{mapped-at}
 
+-- the file of a call that is taken
+file-of : (bytes : List ℕ) (long : ℕ) (p : Procedure) (rest : List ℕ) → asksOf bytes long ≡ accepted p rest → procedure base bytes ≡ accepted p rest
+unfolding asksOf
+file-of bytes long p rest e = go (ltb long bufferLength) refl
+  where
+    by : (b : Bool) → ltb long bufferLength ≡ b → cond b (refused 1) (procedure base bytes) ≡ accepted p rest
+    by b h = ap (λ (x : Bool). cond x (refused 1) (procedure base bytes)) (sym h) ∙ e
+
+    go : (b : Bool) → ltb long bufferLength ≡ b → procedure base bytes ≡ accepted p rest
+    go false h = by false h
+    go true h = let a : Path (Parsed Procedure) (refused 1) (accepted p rest) = by true h in let z : _≡_ {A = ℕ} 0 1 = cc in absurd (omega arith)
+
+fits-of : (bytes : List ℕ) (long : ℕ) (p : Procedure) (rest : List ℕ) → asksOf bytes long ≡ accepted p rest → ProcedureFits base p
+fits-of bytes long p rest e = accepted-fits base (record { types = omega arith; terms = omega arith; lines = omega arith }) bytes p rest (file-of bytes long p rest e)
+
+-- at most eight branches are told
+pub few-told : (bytes : List ℕ) (long : ℕ) (r : Judged) → r ≡ answerTo (asksOf bytes long) → r .branches ≤ 8
+few-told bytes long r is = go (asksOf bytes long) refl
+  where
+    go : (a : Parsed Procedure) → asksOf bytes long ≡ a → r .branches ≤ 8
+    go (refused q) e = omega (arith, ap (λ (x : Judged). x .branches) (is ∙ ap answerTo e))
+    go (accepted p rest) e = omega (arith, ap (λ (x : Judged). x .branches) (is ∙ ap answerTo e), fits-of bytes long p rest e .few)
+
 -- a file that is taken, and what the call left in the buffer
-module _ (bytes : List ℕ) (budget long : ℕ) (out : List ℕ) (left : out ≡ leftIn budget long (asksOf bytes long))
-    (p : Procedure) (rest : List ℕ) (taken : asksOf bytes long ≡ accepted p rest) (file : procedure base bytes ≡ accepted p rest) where
+module _ (bytes : List ℕ) (budget long : ℕ) (out : List ℕ) (left : out ≡ leftIn budget long (asksOf bytes long)) (p : Procedure) (rest : List ℕ) (taken : asksOf bytes long ≡ accepted p rest) where
   fits : ProcedureFits base p
-  fits = accepted-fits base (record { types = omega arith; terms = omega arith; lines = omega arith }) bytes p rest file
+  fits = fits-of bytes long p rest taken
 
   is : out ≡ pad long (codes budget p)
   is = left ∙ ap (leftIn budget long) taken
