@@ -1,3 +1,4 @@
 pub mod Decimals
 pub mod Writing
 pub mod Signs
+pub mod Partly

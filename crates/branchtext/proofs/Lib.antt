@@ -1,0 +1,3 @@
+pub mod ListLaws
+pub mod PairLaws
+pub mod TextCases
