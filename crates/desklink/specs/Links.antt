@@ -12,6 +12,9 @@ use Rattle.decidewithin.specs.Decides.{Decides}
 use Rattle.explain.specs.Explains.{Explains}
 use Rattle.filewriter.specs.declared.FileWritten.{FileWritten}
 use Rattle.returncodes.specs.Code.{codeOf}
+use Rattle.guard.specs.Number.{Parsed}
+use Rattle.branches.specs.Procedure.{Procedure}
+use Rattle.branchverdicts.specs.Judging.{answerTo}
 
 -- return codes: the call was answered; the answer buffer is too short
 abbrev pub answeredCode : ℕ
@@ -55,3 +58,9 @@ pub record LinksExplained (limits : Limits) (bytes : List ℕ) (budget : ℕ) (r
 -- what is returned: the number of bytes, or minus the number of the question
 abbrev pub writtenCode : FileWritten → ℤ
 writtenCode w = codeOf (w .refused) (w .bytes)
+
+-- ---- branches
+
+-- what is returned: the number of branches, or minus the number of the question
+abbrev pub judgedCode : Parsed Procedure → ℤ
+judgedCode p = codeOf (answerTo p .refused) (answerTo p .branches)

@@ -11,7 +11,9 @@ ghost use Rattle.serialize.specs.NumberList.{listFile};
 ghost use Rattle.filewriter.specs.Writer.{answerBy, answerTo, leftBy, leftWith};
 ghost use Rattle.merged.specs.Merge.{mergedFile};
 ghost use Rattle.columnfile.specs.Columns.{restoredFile, storedBytes};
-ghost use Rattle.desklink.specs.Links.{Links, LinksExplained, writtenCode};
+ghost use Rattle.branches.specs.Verdicts.{asksOf, leftIn};
+ghost use Rattle.summaries.specs.AddedLine.{asksFile, asksLine, brought, madeAnew, questionIn};
+ghost use Rattle.desklink.specs.Links.{Links, LinksExplained, judgedCode, writtenCode};
 ghost use Rattle.returncodes.specs.Code.{minus};
 
 // The answer to a guard file within a budget of nodes, as five numbers in `numbers`; the rest as `decide` has it. Returns
@@ -127,4 +129,39 @@ pub extern "C" fn guarddesk_restore(stored: &[u8], out: &mut [u8]) -> i64
 {
     let w = restore::restore(stored, out);
     returncodes::code_of(w.refused, w.bytes)
+}
+
+// The verdicts on the branches of a procedure and on each pair of them, into `out`: a byte for each branch, then one for each pair, zeros behind them.
+// Returns the number of branches, or minus the number of the first question that gets a no; then `out` is all 0.
+#[no_mangle]
+pub extern "C" fn guarddesk_branches(procedure: &[u8], budget: u32, out: &mut [u8]) -> i64
+    ensures { λ r. ⌜ r ≡ judgedCode (asksOf (now (procedure .entry)) (length (now (out .entry)))) ⌝ }
+    ensures { λ r. ⌜ now (out .exit) ≡ leftIn budget (length (now (out .entry))) (asksOf (now (procedure .entry)) (length (now (out .entry)))) ⌝ }
+{
+    let j = branchverdicts::judge_branches(procedure, budget, out);
+    returncodes::code_of(j.refused, j.branches)
+}
+
+// The summary of a guard, made anew: 48 numbers in front of `summary`. Returns 0, or the number of the first question that gets a no; then `summary`
+// is as it was.
+#[no_mangle]
+pub extern "C" fn guarddesk_summarize(file: &[u8], budget: u32, summary: &mut [u16]) -> u32
+    ensures { λ r. ⌜ r ≡ questionIn (asksFile (now (file .entry)) (length (now (summary .entry)))) ⌝ }
+    ensures { λ r. ⌜ now (summary .exit) ≡ madeAnew budget (now (summary .entry)) (asksFile (now (file .entry)) (length (now (summary .entry)))) ⌝ }
+{
+    summary::summarize(file, budget, summary)
+}
+
+// The summary of a guard brought up to date with a line that is added to it. Returns the same.
+#[no_mangle]
+pub extern "C" fn guarddesk_add_line(
+    file: &[u8],
+    line: &[u8],
+    budget: u32,
+    summary: &mut [u16],
+) -> u32
+    ensures { λ r. ⌜ r ≡ questionIn (asksLine (now (file .entry)) (now (line .entry)) (length (now (summary .entry)))) ⌝ }
+    ensures { λ r. ⌜ now (summary .exit) ≡ brought budget (now (summary .entry)) (asksLine (now (file .entry)) (now (line .entry)) (length (now (summary .entry)))) ⌝ }
+{
+    summary::add_line(file, line, budget, summary)
 }
