@@ -1,8 +1,8 @@
 -- The answers of the readers of the parts, put together: what each says of the tables of the whole file. An accepted file has its
 -- procedure's tables, a refused one tables that say the question, and no question has number 0. Assumes nothing.
 use mathlib.Core.Path.{_≡_, ap, sym, refl, _∙_}
-use mathlib.Core.List.{List, [], _∷_}
-use Prim.Native.Nat.{ℕ, _≤_, _<_}
+use mathlib.Core.List.{List}
+use Prim.Native.Nat.{ℕ, _≤_}
 use native.Mathlib.Omega.{arith}
 use lib.ListN.{length, drop}
 use Rattle.laws.specs.All.{All}
@@ -23,27 +23,17 @@ use Rattle.headreader.proofs.HeadLaws.{HeadFound, head-found, head-refused, tid
 use Rattle.headreader.proofs.HeadFits as headfits
 use Rattle.literalkinds.specs.OneLiteral.{literalBy}
 use Rattle.literalreader.specs.LiteralReader.{EachBelow, linesBy}
-use Rattle.literalreader.proofs.TidyLiterals.{tidy-lines, tidy-literal}
+use Rattle.literalreader.proofs.LiteralReaderLaws.{times-same}
+use Rattle.literalreader.proofs.TidyLiterals.{tidy-ended, tidy-lines, tidy-literal}
 use Rattle.branches.specs.Procedure.{Procedure, branch, branchCount, branchLimit, procedure}
 use Rattle.branchreader.specs.BranchReader.{asBranches, asTables, branchTables, branchesAt, branchesBy, noBranches, noProcedure, procedureTables, tablesAt}
 use Rattle.branchreader.specs.declared.BranchesRead.{BranchesRead}
 use Rattle.branchreader.specs.declared.ProcedureRead.{ProcedureRead}
 use Rattle.branchreader.proofs.CountLaws.{tidy-branch-count}
 use Rattle.branchreader.proofs.FileParts.{afterHead, file-parts}
-use Rattle.branchreader.proofs.SameLines.{lines-are, times-same}
+use Rattle.branchreader.proofs.SameLines.{lines-are}
 
 -- ---- no question has number 0
-
-tidy-ended : Tidy ended Any
-tidy-ended = record { asks = asked; leaves = left; gives = λ bs a rest e. tt }
-  where
-    asked : (bs : List ℕ) (q : ℕ) → ended bs ≡ refused q → 0 < q
-    asked [] q e = let z : _≡_ {A = ℕ} 0 1 = cc in absurd (omega arith)
-    asked (b ∷ bs) q e = let z : 10 ≡ q = cc in omega arith
-
-    left : (bs : List ℕ) (a : Unit {0}) (rest : List ℕ) → ended bs ≡ accepted a rest → (u : ℕ) × (u ≤ length bs) × (rest ≡ drop u bs)
-    left [] a rest e = (0, omega arith, (let z : rest ≡ [] = cc in z))
-    left (b ∷ bs) a rest e = let z : _≡_ {A = ℕ} 0 1 = cc in absurd (omega arith)
 
 tidy-branches : (p : Parser (List Literal)) → Tidy p Any → Tidy (branchesBy p) Any
 tidy-branches p t =

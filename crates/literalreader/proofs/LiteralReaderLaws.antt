@@ -16,7 +16,7 @@ use Rattle.literalreader.specs.LiteralReader.{asLiterals, literalsAt, li
 -- ---- parsers that agree, repeated
 
 module _ {A : Type 0} (p q : Parser A) (same : (bs : List ℕ) → p bs ≡ q bs) where
-  times-same : (n : ℕ) (bs : List ℕ) → times n p bs ≡ times n q bs
+  pub times-same : (n : ℕ) (bs : List ℕ) → times n p bs ≡ times n q bs
   times-same zero bs = refl
   times-same (suc n) bs = ap (andThen (λ x. times n p >>= λ xs. return (x ∷ xs))) (same bs) ∙ go (λ rest. times-same n rest) (q bs)
     where
@@ -97,7 +97,7 @@ module _ (ts : Types) (rs : List Row) (counts us : List ℕ)
   numbers-are (suc (suc zero)) bs = test-is (made 2) bs
   numbers-are (suc (suc (suc k))) bs = test-is (made 3) bs
 
-  literal-is : (bs : List ℕ) → literalBy counts (length rs) us bs ≡ literal ts rs bs
+  pub literal-is : (bs : List ℕ) → literalBy counts (length rs) us bs ≡ literal ts rs bs
   literal-is bs = go (kind bs)
     where
       go : (p : Parsed ℕ) → andThen (λ k. numbersBy counts (length rs) us k >>= λ x. return (made k x)) p ≡ andThen (literalOf ts rs) p

@@ -76,7 +76,7 @@ tidy-lines limit p t =
 pub tidy-lines-by : (limit : ℕ) (counts : List ℕ) (rows : ℕ) (us : List ℕ) → Tidy (linesBy limit (literalBy counts rows us)) Any
 tidy-lines-by limit counts rows us = tidy-lines limit (literalBy counts rows us) (tidy-literal-by counts rows us)
 
-tidy-ended : Tidy ended Any
+pub tidy-ended : Tidy ended Any
 tidy-ended = record { asks = asked; leaves = left; gives = λ bs a rest e. tt }
   where
     asked : (bs : List ℕ) (q : ℕ) → ended bs ≡ refused q → 0 < q
