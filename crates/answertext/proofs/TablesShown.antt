@@ -11,10 +11,9 @@ use Rattle.guard.specs.Guard.{Guard}
 use Rattle.guard.specs.Limits.{base}
 use Rattle.guard.specs.Number.{Parsed, Parsed.accepted, Parsed.refused}
 use Rattle.guard.specs.Types.{fieldsOf}
-use Rattle.guard.proofs.Accepted.{accepted-well-formed}
+use Rattle.guard.proofs.Accepted.{accepted-total, accepted-well-formed}
 use Rattle.guard.proofs.Claims.{base-supported}
 use Rattle.tables.specs.Layout.{flat, rowTable, typeTable}
-use Rattle.tables.proofs.AcceptedTotal.{accepted-total}
 use Rattle.reader.specs.Reader.{asTables, guardTables, noTables, tablesAt}
 use Rattle.reader.specs.declared.Tables.{Tables}
 use Rattle.rowtext.specs.Rows.{rowLine}
@@ -51,7 +50,7 @@ module _ (bytes : List ℕ) (t : Tables) (is : t ≡ tablesAt base bytes) where
           record {
             types = ap (λ (x : Tables). x .types) (is ∙ ap asTables e);
             terms = ap (λ (x : Tables). x .rows .many) (is ∙ ap asTables e);
-            total = accepted-total base bytes g rest e;
+            total = accepted-total base base-supported bytes g rest e;
             six = well .typeCount;
             three = well .fieldCounts;
             few = well .termCount;

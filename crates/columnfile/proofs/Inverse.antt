@@ -14,8 +14,7 @@ use Rattle.guard.specs.Limits.{Limits, Supported, totalVariantLimit}
 use Rattle.guard.specs.Number.{Parsed, Parsed.accepted, Parser, andThen, return, width32}
 use Rattle.guard.specs.Types.{Types, Variant, allDefaults, infiniteFields}
 use Rattle.guard.specs.WellFormed.{RowFits, WellFormed}
-use Rattle.guard.proofs.Accepted.{accepted-well-formed}
-use Rattle.tables.proofs.AcceptedTotal.{accepted-total}
+use Rattle.guard.proofs.Accepted.{accepted-total, accepted-well-formed}
 use Rattle.tables.proofs.Lookups.{map-at}
 use Rattle.encoding.specs.Encoding.{encoded}
 use Rattle.serialize.specs.Tokens.{Token, Token.plain, bytesOf, guardTokens, literalTokens, rowTokens, tokenBytes, typeTokens}
@@ -165,6 +164,6 @@ module _ (limits : Limits) (sup : Supported limits) (g : Guard) (w : WellFormed 
 module _ (limits : Limits) (sup : Supported limits) (bs : List ℕ) (g : Guard) (rest : List ℕ) (small : All (λ b. b < 256) bs) (taken : file limits bs ≡ accepted g rest) where
   pub inverse : (restoredFile limits (storedBytes g) ≡ accepted g []) × (bytesOf g ≡ bs)
   inverse = (
-    restored-guard limits sup g (accepted-well-formed limits sup bs g rest taken) (accepted-total limits bs g rest taken),
+    restored-guard limits sup g (accepted-well-formed limits sup bs g rest taken) (accepted-total limits sup bs g rest taken),
     file-numbers limits sup bs g rest small taken .1,
   )

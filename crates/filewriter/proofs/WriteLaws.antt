@@ -11,10 +11,9 @@ use Rattle.guard.specs.Guard.{Guard, Literal, Literal.equal, Literal.is, Litera
 use Rattle.guard.specs.Limits.{base}
 use Rattle.guard.specs.Number.{Parsed, Parsed.accepted, Parsed.refused, foldSigned}
 use Rattle.guard.specs.Types.{Types}
-use Rattle.guard.proofs.Accepted.{accepted-length, accepted-well-formed}
+use Rattle.guard.proofs.Accepted.{accepted-length, accepted-total, accepted-well-formed}
 use Rattle.guard.proofs.Claims.{base-supported}
 use Rattle.tables.specs.Layout.{literalTable, pad, rowKind, rowTable, rowVariant, typeTable}
-use Rattle.tables.proofs.AcceptedTotal.{accepted-total}
 use Rattle.reader.specs.declared.Tables.{Tables}
 use Rattle.reader.specs.Reader.{guardTables, noTables}
 use Rattle.encoding.proofs.ReadBack.{one-at-least, value-one-at-least}
@@ -130,7 +129,7 @@ module _ {zs : List ℤ} {t : Tables} (k : Taken zs t) where
       let back = read-as-list base base-supported zs g (k .rest) (k .is) .0 in
       record {
         well-formed = accepted-well-formed base base-supported (bytesOf g) g [] back;
-        total = accepted-total base (bytesOf g) g [] back;
+        total = accepted-total base base-supported (bytesOf g) g [] back;
         short = bytes-read .2;
         types-are = ap (λ (x : Tables). x .types) (k .tables) ∙ ap typeTable taken-types;
         many = ap (λ (x : Tables). x .rows .many) (k .tables) ∙ sym (length-map (k .shown .rows) rowKind) ∙ ap length (kept rowKind kind-kept) ∙ length-map (g .rows) rowKind;

@@ -14,10 +14,9 @@ use Rattle.guard.specs.Meaning.{Holds}
 use Rattle.guard.specs.Message.{Message}
 use Rattle.guard.specs.Number.{Parsed, Parsed.accepted, Parsed.refused}
 use Rattle.guard.specs.WellFormed.{WellFormed}
-use Rattle.guard.proofs.Accepted.{accepted-ended, accepted-well-formed}
+use Rattle.guard.proofs.Accepted.{accepted-ended, accepted-total, accepted-well-formed}
 use Rattle.guard.proofs.Claims.{at-most-585, base-supported}
 use Rattle.tables.specs.Layout.{flat}
-use Rattle.tables.proofs.AcceptedTotal.{accepted-total}
 use Rattle.reader.proofs.TablesRead.{file-question}
 use Rattle.encoding.proofs.Parsers.{not-accepted}
 use Rattle.serialize.specs.Tokens.{bytesOf}
@@ -75,7 +74,7 @@ module _ (first second : List ℕ) where
             first-is = ended first g l ep;
             second-is = ended second h k er;
             is = same-guard (sym (tests g h true true true t v w) ∙ e);
-            types = same-held (holds-types base base-supported g (formed first g l ep) (accepted-total base first g l ep)) (holds-types base base-supported h (formed second h k er) (accepted-total base second h k er)) t;
+            types = same-held (holds-types base base-supported g (formed first g l ep) (accepted-total base base-supported first g l ep)) (holds-types base base-supported h (formed second h k er) (accepted-total base base-supported second h k er)) t;
             variables = v;
             room = w;
           })
@@ -113,7 +112,7 @@ module _ {first second : List ℕ} {m : Guard} (k : Merges first second m) where
 
   total : length (flat (merged (k .one) (k .other) .types)) ≤ totalVariantLimit
   unfolding merged
-  total = accepted-total base first (k .one) [] (k .first-is)
+  total = accepted-total base base-supported first (k .one) [] (k .first-is)
 
   -- "takes two accepted files and writes one": what is written is a file of the merged guard
   pub merged-accepted : file base (bytesOf m) ≡ accepted m []

@@ -11,10 +11,9 @@ use Rattle.guard.specs.Guard.{Guard, Literal, Row}
 use Rattle.guard.specs.Limits.{base}
 use Rattle.guard.specs.Number.{Parsed.accepted}
 use Rattle.guard.specs.Types.{Types}
-use Rattle.guard.proofs.Accepted.{accepted-well-formed}
+use Rattle.guard.proofs.Accepted.{accepted-total, accepted-well-formed}
 use Rattle.guard.proofs.Claims.{base-supported}
 use Rattle.tables.specs.Layout.{literalTable}
-use Rattle.tables.proofs.AcceptedTotal.{accepted-total}
 use Rattle.reader.specs.declared.Tables.{Tables}
 use Rattle.reader.specs.Reader.{guardTables, tablesAt}
 use Rattle.reader.proofs.TablesRead.{guard-tables, taken-file}
@@ -58,7 +57,7 @@ opened bytes t is z =
       guard = g;
       rest = rest;
       is = e;
-      tables = record { are = guard-tables base bytes t is g rest e; fits = accepted-well-formed base base-supported bytes g rest e; total = accepted-total base bytes g rest e };
+      tables = record { are = guard-tables base bytes t is g rest e; fits = accepted-well-formed base base-supported bytes g rest e; total = accepted-total base base-supported bytes g rest e };
     }
 
 -- a guard's lines can be put, and under their own numbers

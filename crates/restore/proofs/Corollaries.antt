@@ -13,9 +13,8 @@ use Rattle.guard.specs.File.{file}
 use Rattle.guard.specs.Guard.{Guard}
 use Rattle.guard.specs.Limits.{base}
 use Rattle.guard.specs.Number.{Parsed, Parsed.accepted, Parsed.refused, andThen}
-use Rattle.guard.proofs.Accepted.{accepted-well-formed}
+use Rattle.guard.proofs.Accepted.{accepted-total, accepted-well-formed}
 use Rattle.guard.proofs.Claims.{at-most-585, base-supported}
-use Rattle.tables.proofs.AcceptedTotal.{accepted-total}
 use Rattle.reader.proofs.TablesRead.{file-question}
 use Rattle.encoding.proofs.Parsers.{not-accepted}
 use Rattle.serialize.specs.Tokens.{bytesOf}
@@ -34,7 +33,7 @@ module _ (stored : List ℕ) where
     where
       go : (r : Parsed (List ℕ)) → andThen (λ head left. file base (head ++ left)) r ≡ accepted g rest → file base (bytesOf g) ≡ accepted g []
       go (refused q) h = absurd (not-accepted q g rest h)
-      go (accepted head left) h = well-formed-file base base-supported g (accepted-well-formed base base-supported (head ++ left) g rest h) (accepted-total base (head ++ left) g rest h)
+      go (accepted head left) h = well-formed-file base base-supported g (accepted-well-formed base base-supported (head ++ left) g rest h) (accepted-total base base-supported (head ++ left) g rest h)
 
   module _ (n : ℕ) where
     restored-bytes : (g : Guard) (rest : List ℕ) → restoredFile base stored ≡ accepted g rest → length (bytesOf g) ≤ 585

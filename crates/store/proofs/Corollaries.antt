@@ -11,9 +11,8 @@ use Rattle.guard.specs.Limits.{base}
 use Rattle.guard.specs.Number.{Parsed.accepted}
 use Rattle.guard.specs.Types.{Types}
 use Rattle.guard.specs.WellFormed.{RowFits, WellFormed}
-use Rattle.guard.proofs.Accepted.{accepted-well-formed}
+use Rattle.guard.proofs.Accepted.{accepted-total, accepted-well-formed}
 use Rattle.guard.proofs.Claims.{at-most-585, base-supported}
-use Rattle.tables.proofs.AcceptedTotal.{accepted-total}
 use Rattle.encoding.specs.Encoding.{encoded}
 use Rattle.serialize.specs.Tokens.{bytesOf, rowTokens, tokenBytes}
 use Rattle.serialize.proofs.Copying.{concatMap-append}
@@ -94,7 +93,7 @@ module _ (bytes : List ℕ) (n : ℕ) where
   stored-bytes : (g : Guard) (rest : List ℕ) → file base bytes ≡ accepted g rest → length (storedBytes g) ≤ 585
   stored-bytes g rest e =
       let w = accepted-well-formed base base-supported bytes g rest e in
-      omega (arith, same-length g w, at-most-585 (bytesOf g) g [] (well-formed-file base base-supported g w (accepted-total base bytes g rest e)))
+      omega (arith, same-length g w, at-most-585 (bytesOf g) g [] (well-formed-file base base-supported g w (accepted-total base base-supported bytes g rest e)))
 
   pub few-stored : answerBy storedBytes (file base bytes) n .bytes ≤ 585
   few-stored = few-told storedBytes (file base bytes) n 585 stored-bytes

@@ -2,4 +2,3 @@ pub mod Columns
 pub mod Held
 pub mod Lookups
 pub mod TypesBack
-pub mod AcceptedTotal
