@@ -1,5 +1,5 @@
-//! Calls that write a guard file into an output buffer, with their answers:
-//! what `lists.txt` and `merges.txt` have on their lines.
+//! Calls that write a file into an output buffer, with their answers: what
+//! `lists.txt`, `merges.txt` and `columns.txt` have on their lines.
 
 use super::{hex, parse_lines, unhex, Vector};
 use crate::encode::{Draft, Token};
