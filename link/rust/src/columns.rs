@@ -40,8 +40,8 @@ pub fn store(file: &[u8]) -> Result<Vec<u8>, StoreRefusal> {
     file_of(|out| raw::store_into(file, out)).map_err(StoreRefusal)
 }
 
-/// Gives back the guard file that these bytes are stored of. Bytes that are stored of no file are refused, by a question from 2 to
-/// 10; what isn't refused is a guard file, and is stored as these bytes.
+/// Gives back the guard file that these bytes are stored of. What is given back is a guard file, which the other calls take; that
+/// is proved. Bytes that are stored of no file are refused, by a question from 2 to 10.
 ///
 /// ```
 /// use guarddesk::{restore, StoreRefusal};
