@@ -4,29 +4,15 @@
 use crate::encode::{bytes, Role, Token};
 use crate::list::LONGEST_FILE;
 use crate::random::Random;
-use crate::vectors::{broken, unhex};
-
-/// A place whose number has such a role.
-fn place(random: &mut Random, tokens: &[Token], fits: impl Fn(Role) -> bool) -> Option<usize> {
-    let fits = |&at: &usize| fits(tokens[at].role);
-    let places: Vec<usize> = (0..tokens.len()).filter(fits).collect();
-    random.pick(&places)
-}
+use crate::vectors::broken::{self, beyond};
+use crate::vectors::unhex;
+use crate::vectors::written::place;
 
 /// The bytes with another number at this place.
 fn with(tokens: &[Token], at: usize, number: u64) -> Vec<u8> {
     let mut tokens = tokens.to_vec();
     tokens[at].number = number;
     bytes(&tokens)
-}
-
-/// How far a number is beyond what it may be.
-fn beyond(random: &mut Random) -> u64 {
-    match random.below(4) {
-        0 => u64::from(u32::MAX) - 300,
-        1 => 128,
-        _ => random.below(4) as u64,
-    }
 }
 
 /// Every number before the end is as it was, and so is each that is asked of the
