@@ -12,8 +12,8 @@
  *   - They always end. The budget bounds the time of guarddesk_decide and guarddesk_load: no more nodes than that are searched. At the limits of a
  *     guard a node was measured at 1 to 1.8 microseconds (docs/BENCHMARKS.md). guarddesk_explain visits the nodes of a closed search
  *     once more, guarddesk_check at most those of the record. The others search nothing.
- *   - Each needs 820 KB of stack or less, guarddesk_load 260 KB, guarddesk_write and guarddesk_merge 13 KB (docs/EMBEDDING.md counts
- *     the bytes).
+ *   - Each needs 820 KB of stack or less, guarddesk_load 260 KB, guarddesk_write, guarddesk_merge, guarddesk_store and guarddesk_restore 13 KB
+ *     (docs/EMBEDDING.md counts the bytes).
  */
 #ifndef GUARDDESK_H
 #define GUARDDESK_H
