@@ -1,7 +1,8 @@
 /*
  * The guard desk: whether a guard over message fields can hold at all and, where it can, messages that make it hold; where it
  * cannot, a record of every branch that was tried, and a check of such records. And a writer of guard files, for programs that
- * make guards, and a merge of two guards that have to hold at once. guarddesk_load is the desk's call for less memory.
+ * make guards, a merge of two guards that have to hold at once, and a store of guard files by column. guarddesk_load is the desk's
+ * call for less memory.
  *
  * Eight functions, in libdesklink.a (x86-64 Linux). What they give is proved for every file, budget, record, list and buffer length;
  * docs/EMBEDDING.md says what rests on what.
@@ -10,9 +11,9 @@
  *     threads at once are fine, each with its own buffers.
  *   - They always end. The budget bounds the time of guarddesk_decide and guarddesk_load: no more nodes than that are searched. At the limits of a
  *     guard a node was measured at 1 to 1.8 microseconds (docs/BENCHMARKS.md). guarddesk_explain visits the nodes of a closed search
- *     once more, guarddesk_check at most those of the record. guarddesk_write and guarddesk_merge search nothing.
- *   - Each needs 820 KB of stack or less, guarddesk_load 260 KB, guarddesk_write and guarddesk_merge 13 KB (docs/EMBEDDING.md counts
- *     the bytes).
+ *     once more, guarddesk_check at most those of the record. The others search nothing.
+ *   - Each needs 820 KB of stack or less, guarddesk_load 260 KB, guarddesk_write, guarddesk_merge, guarddesk_store and guarddesk_restore 13 KB
+ *     (docs/EMBEDDING.md counts the bytes).
  */
 #ifndef GUARDDESK_H
 #define GUARDDESK_H
@@ -56,7 +57,7 @@ extern "C" {
 /* How many bytes of a record suffice for each node of the node count. */
 #define GUARDDESK_RECORD_BYTES_PER_NODE 3
 
-/* How many bytes of output always suffice for guarddesk_write and guarddesk_merge: no guard file is longer. */
+/* How many bytes of output always suffice for the calls that write a file or store one: no guard file is longer. */
 #define GUARDDESK_FILE_LENGTH 585
 
 /* The nodes of a record, by their first number. */

@@ -1,6 +1,6 @@
 /*
  * stack HEX BUDGET: how much stack each call takes on a guard file, given in hexadecimal; the writer's is the same for every list
- * that it takes, and the merge's for every two files. Each runs in a thread of its own on a painted stack, and the thread's own share is in the numbers. Link with -pthread -Wl,-z,now, so that no call looks for memcpy.
+ * that it takes, the merge's for every two files, and so those of the store and of the way back. Each runs in a thread of its own on a painted stack, and the thread's own share is in the numbers. Link with -pthread -Wl,-z,now, so that no call looks for memcpy.
  */
 #include "guarddesk.h"
 #include <pthread.h>
@@ -15,7 +15,8 @@ static size_t file_length, record_room, record_length;
 static uint32_t budget, answer[GUARDDESK_ANSWER_LENGTH], question;
 static int32_t rows[GUARDDESK_ROWS_LENGTH], places[GUARDDESK_PLACES_LENGTH];
 static uint8_t written[GUARDDESK_FILE_LENGTH], merged[GUARDDESK_FILE_LENGTH];
-static int64_t written_length, merged_length;
+static uint8_t stored[GUARDDESK_FILE_LENGTH], restored[GUARDDESK_FILE_LENGTH];
+static int64_t written_length, merged_length, stored_length, restored_length;
 
 static void *decide(void *nothing)
 {
@@ -50,6 +51,20 @@ static void *write_file(void *nothing)
 static void *merge(void *nothing)
 {
     merged_length = guarddesk_merge(written, (size_t)written_length, written, (size_t)written_length, merged, sizeof merged);
+    return nothing;
+}
+
+/* Stores the written file by column. */
+static void *store(void *nothing)
+{
+    stored_length = guarddesk_store(written, (size_t)written_length, stored, sizeof stored);
+    return nothing;
+}
+
+/* Gives it back. */
+static void *restore(void *nothing)
+{
+    restored_length = guarddesk_restore(stored, (size_t)stored_length, restored, sizeof restored);
     return nothing;
 }
 
@@ -106,6 +121,14 @@ int main(int many, char **words)
     const size_t merge_used = used(merge);
     printf("merge %zu bytes: a file of %d bytes\n", merge_used, (int)merged_length);
     if (merged_length < 0)
+        return 1;
+    const size_t store_used = used(store);
+    printf("store %zu bytes: %d bytes\n", store_used, (int)stored_length);
+    if (stored_length < 0)
+        return 1;
+    const size_t restore_used = used(restore);
+    printf("restore %zu bytes: a file of %d bytes\n", restore_used, (int)restored_length);
+    if (restored_length != written_length || memcmp(restored, written, (size_t)written_length) != 0)
         return 1;
     const size_t decided = used(decide);
     printf("decide %zu bytes: verdict %u, %u\n", decided, (unsigned)answer[0], (unsigned)answer[1]);

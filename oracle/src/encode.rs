@@ -126,17 +126,27 @@ impl Draft {
 
     /// The numbers of the file, in order.
     pub fn tokens(&self, limits: Limits) -> Vec<Token> {
-        let mut out = Tokens(Vec::new());
-        self.write_types(limits, &mut out);
-        out.count(self.rows.len(), limits.terms);
-        for (number, row) in self.rows.iter().enumerate() {
+        self.parts(limits).concat().concat()
+    }
+
+    /// The same in parts: the types and N, the rows, each by itself, and L and
+    /// the lines.
+    pub fn parts(&self, limits: Limits) -> [Vec<Vec<Token>>; 3] {
+        let mut head = Tokens(Vec::new());
+        self.write_types(limits, &mut head);
+        head.count(self.rows.len(), limits.terms);
+        let row = |(number, row)| {
+            let mut out = Tokens(Vec::new());
             self.write_row(number, row, &mut out);
-        }
-        out.count(self.lines.len(), limits.lines);
+            out.0
+        };
+        let rows = self.rows.iter().enumerate().map(row).collect();
+        let mut lines = Tokens(Vec::new());
+        lines.count(self.lines.len(), limits.lines);
         for line in &self.lines {
-            self.write_line(line, &mut out);
+            self.write_line(line, &mut lines);
         }
-        out.0
+        [vec![head.0], rows, vec![lines.0]]
     }
 
     fn write_types(&self, limits: Limits, out: &mut Tokens) {

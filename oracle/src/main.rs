@@ -13,8 +13,10 @@ use oracle::order::{self, Rule, Size};
 use oracle::problem::Problem;
 use oracle::random::Random;
 use oracle::read::Question;
-use oracle::vectors::{self, lists, loads, merges, records, summaries, Vector, USUAL_BUDGET};
-use oracle::{list, read, record, smt, tables, text};
+use oracle::vectors::{
+    self, columns as stored, lists, loads, merges, records, summaries, Vector, USUAL_BUDGET,
+};
+use oracle::{columns, list, read, record, smt, tables, text};
 
 const USAGE: &str = "\
 usage: oracle answer FILE [--budget N]        the answer to a guard file
@@ -27,6 +29,10 @@ usage: oracle answer FILE [--budget N]        the answer to a guard file
                                               their values
        oracle write LIST                      the guard file of such numbers, in hexadecimal
        oracle merge FIRST SECOND              the two guards as one file, in hexadecimal
+       oracle store FILE                      the file with its term rows by column, in
+                                              hexadecimal
+       oracle restore STORED                  the file that these bytes are stored of, in
+                                              hexadecimal
        oracle orders FILE                     the whole search trees of a guard by other
                                               orders of splitting: their nodes and open
                                               leaves, and 2 x W - 1
@@ -42,6 +48,8 @@ usage: oracle answer FILE [--budget N]        the answer to a guard file
                                               guards of DIR/vectors.txt
        oracle merges [--check] DIR            writes or checks DIR/merges.txt, with
                                               guards of DIR/vectors.txt
+       oracle columns [--check] DIR           writes or checks DIR/columns.txt, with
+                                              files of DIR/vectors.txt
        oracle loads [--check] DIR             writes or checks DIR/loads.txt, with
                                               files of DIR/vectors.txt
        oracle summaries [--check] DIR         writes or checks DIR/summaries.txt, with
@@ -53,7 +61,7 @@ usage: oracle answer FILE [--budget N]        the answer to a guard file
        oracle walks [--check] VECTORS DIR     the same, with the answer to each in a line
        oracle answers [--check] VECTORS DIR   writes or checks DIR/stdin, and checks
                                               DIR/stdout, the whole answers of the desk
-A FILE, OUTPUT, RECORD, LIST, FIRST or SECOND may be - for standard input. N is 1000000 if not given.";
+A FILE, OUTPUT, RECORD, LIST, STORED, FIRST or SECOND may be - for standard input. N is 1000000 if not given.";
 
 /// Why the program fails.
 enum Failure {
@@ -99,6 +107,8 @@ fn run(words: &[&str]) -> Result<(), Failure> {
         ["list", file] => list_command(file),
         ["write", list] => write_command(list),
         ["merge", first, second] => merge_command(first, second),
+        ["store", file] => store_command(file),
+        ["restore", stored] => restore_command(stored),
         ["orders", "--check", vectors] => check_orders(vectors),
         ["orders", file] => orders_command(file),
         ["orders", file, "--rule", name] => order_command(file, named_rule(name)?),
@@ -112,6 +122,8 @@ fn run(words: &[&str]) -> Result<(), Failure> {
         ["lists", dir] => write_kept(&LISTS, dir),
         ["merges", "--check", dir] => check_kept(&MERGES, dir),
         ["merges", dir] => write_kept(&MERGES, dir),
+        ["columns", "--check", dir] => check_kept(&COLUMNS, dir),
+        ["columns", dir] => write_kept(&COLUMNS, dir),
         ["loads", "--check", dir] => check_kept(&LOADS, dir),
         ["loads", dir] => write_kept(&LOADS, dir),
         ["summaries", "--check", dir] => check_kept(&SUMMARIES, dir),
@@ -255,6 +267,18 @@ fn merge_command(first: &str, second: &str) -> Result<(), Failure> {
     print(&format!("{}\n", vectors::hex(&merged)))
 }
 
+fn store_command(file: &str) -> Result<(), Failure> {
+    let stored = columns::store(&load(file)?, Limits::BASE);
+    let stored = stored.map_err(|question| refused("file", question))?;
+    print(&format!("{}\n", vectors::hex(&stored)))
+}
+
+fn restore_command(stored: &str) -> Result<(), Failure> {
+    let file = columns::restore(&load(stored)?, Limits::BASE);
+    let file = file.map_err(|question| refused("stored file", question))?;
+    print(&format!("{}\n", vectors::hex(&file)))
+}
+
 /// Larger trees are given up.
 const MOST_NODES: u32 = 1_000_000;
 const MOST_CLOSURES: u32 = 100_000;
@@ -363,6 +387,15 @@ const MERGES: Kept = Kept {
     make: |dir| {
         let all = merges::all(&vectors_of(dir)?).map_err(Failure::Wrong)?;
         Ok((merges::text(&all), all.len()))
+    },
+};
+
+const COLUMNS: Kept = Kept {
+    name: "columns.txt",
+    what: "calls of the store",
+    make: |dir| {
+        let all = stored::all(&vectors_of(dir)?).map_err(Failure::Wrong)?;
+        Ok((stored::text(&all), all.len()))
     },
 };
 

@@ -3,7 +3,7 @@
 
 use crate::guard::{Guard, Limits, Line, Row, FIELDS, VARIANTS_IN_ALL, VARIANTS_PER_TYPE};
 use crate::number::{self, Width};
-use crate::types::{self, Type};
+use crate::types::{self, DefaultOf, Type};
 
 /// The questions of document 01, and the one that request #112 adds for the
 /// writer; a "no" refuses with the question's number.
@@ -99,14 +99,7 @@ pub fn read_line(bytes: &[u8], guard: &Guard) -> Result<Line, Question> {
 /// The guard of which these are the numbers.
 pub fn read_numbers(numbers: impl Numbers, limits: Limits) -> Result<Guard, Question> {
     let mut reader = Reader { numbers };
-    let types = reader.types(limits)?;
-
-    // "After the last type and before N."
-    let defaults: Option<Vec<_>> = types::defaults(&types).into_iter().collect();
-    let defaults = defaults.ok_or(Question::DefaultsExist)?;
-    Question::FieldsCanGrow.ask(types::fields_can_grow(&types))?;
-    reader.numbers.after_types(&types)?;
-
+    let (types, defaults) = reader.asked_types(limits)?;
     let mut guard = Guard {
         limits,
         types,
@@ -128,17 +121,30 @@ pub fn read_numbers(numbers: impl Numbers, limits: Limits) -> Result<Guard, Ques
     Ok(guard)
 }
 
+/// The types of a file, N, and the bytes behind it. Nothing is asked of these.
+pub fn read_up_to_rows(file: &[u8], limits: Limits) -> Result<(Vec<Type>, usize, &[u8]), Question> {
+    let numbers = File { rest: file };
+    let mut reader = Reader { numbers };
+    let (types, _) = reader.asked_types(limits)?;
+    let rows = reader.count(limits.terms)?;
+    Ok((types, rows, reader.numbers.rest))
+}
+
+/// Questions 2 and 3: the number at the front of these bytes, and its length.
+pub fn read_number(bytes: &[u8], width: Width) -> Result<(u64, usize), Question> {
+    number::read(bytes, width).map_err(|fault| match fault {
+        number::Fault::CutOff => Question::NumberEnds,
+        number::Fault::Form => Question::NumberForm,
+    })
+}
+
 struct File<'a> {
     rest: &'a [u8],
 }
 
 impl File<'_> {
-    /// Questions 2 and 3.
     fn number(&mut self, width: Width) -> Result<u64, Question> {
-        let (value, length) = number::read(self.rest, width).map_err(|fault| match fault {
-            number::Fault::CutOff => Question::NumberEnds,
-            number::Fault::Form => Question::NumberForm,
-        })?;
+        let (value, length) = read_number(self.rest, width)?;
         self.rest = &self.rest[length..];
         Ok(value)
     }
@@ -185,6 +191,17 @@ impl<N: Numbers> Reader<N> {
     /// "If a kind, is it listed?" Rows and lines both have the kinds 0 to 3.
     fn kind(&mut self) -> Result<usize, Question> {
         self.below(4, Question::KindListed)
+    }
+
+    /// The types with their defaults, and what is asked "after the last type and
+    /// before N".
+    fn asked_types(&mut self, limits: Limits) -> Result<(Vec<Type>, Vec<DefaultOf>), Question> {
+        let types = self.types(limits)?;
+        let defaults: Option<Vec<_>> = types::defaults(&types).into_iter().collect();
+        let defaults = defaults.ok_or(Question::DefaultsExist)?;
+        Question::FieldsCanGrow.ask(types::fields_can_grow(&types))?;
+        self.numbers.after_types(&types)?;
+        Ok((types, defaults))
     }
 
     fn types(&mut self, limits: Limits) -> Result<Vec<Type>, Question> {

@@ -79,7 +79,7 @@ fn checks_printed_answers() {
 
 #[test]
 fn wrong_use_is_said() {
-    let cases: [&[&str]; 42] = [
+    let cases: &[&[&str]] = &[
         &[],
         &["nonsense"],
         &["answer"],
@@ -102,6 +102,9 @@ fn wrong_use_is_said() {
         &["merge", "-"],
         &["merge", "-", "-"],
         &["merge", "-", "no such file"],
+        &["store"],
+        &["store", "no such file"],
+        &["restore", "no such file"],
         &["orders"],
         &["orders", "no such file"],
         &["orders", "-", "--rule", "best"],
@@ -115,6 +118,8 @@ fn wrong_use_is_said() {
         &["lists", "--check", "no such directory"],
         &["merges", "no such directory"],
         &["merges", "--check", "no such directory"],
+        &["columns", "no such directory"],
+        &["columns", "--check", "no such directory"],
         &["pack", "no such file", "out"],
         &["tables", "no such file", "."],
         &["tables", "--check", "no such file", "."],
@@ -265,6 +270,11 @@ fn merges_are_written_and_checked() {
     made_and_checked("merges");
 }
 
+#[test]
+fn columns_are_written_and_checked() {
+    made_and_checked("columns");
+}
+
 /// Document 01's case j: the values −3 and 4.
 const J: &[u8] = &[1, 0, 2, 1, 0, 5, 1, 0, 8, 1, 0, 0, 1];
 
@@ -282,6 +292,24 @@ fn lists_and_files() {
         (&["write", "-"], b"-", "the list is REFUSED 2"),
         (&["write", "-"], b"", "the list is REFUSED 2"),
         (&["write", "-"], b"0 0 zero", "isn't a list of numbers"),
+    ] {
+        let output = oracle(words, input);
+        assert_eq!(output.status.code(), Some(1), "{why}");
+        assert!(String::from_utf8_lossy(&output.stderr).contains(why));
+    }
+}
+
+#[test]
+fn stores_and_restores_a_file() {
+    let stored = [1, 0, 2, 1, 1, 0, 0, 5, 8, 1, 0, 0, 1];
+    let there = printed(&oracle(&["store", "-"], J));
+    assert_eq!(there, "01000201010000050801000001\n");
+    let back = printed(&oracle(&["restore", "-"], &stored));
+    assert_eq!(back, "01000201000501000801000001\n");
+    for (words, input, why) in [
+        (&["store", "-"], &[7][..], "the file is REFUSED 4"),
+        (&["restore", "-"], &stored[..7], "stored file is REFUSED 2"),
+        (&["restore", "-"], &[1, 0, 1, 4], "stored file is REFUSED 6"),
     ] {
         let output = oracle(words, input);
         assert_eq!(output.status.code(), Some(1), "{why}");

@@ -3,6 +3,7 @@
 use crate::buffers::Buffer;
 use crate::calls::{self, Call, Expected, MOST_LONGER};
 use crate::checks::Checker;
+use crate::columns::Columns;
 use crate::counts::Counts;
 use crate::desk::{Desk, Lent};
 use crate::files::Maker;
@@ -71,6 +72,7 @@ pub struct Comparer<D> {
     checker: Checker,
     writer: Writer,
     merger: Merger,
+    columns: Columns,
 }
 
 impl<D: Desk> Comparer<D> {
@@ -89,6 +91,7 @@ impl<D: Desk> Comparer<D> {
             checker: Checker::new(maker),
             writer: Writer::new(random),
             merger: Merger::new(random, maker),
+            columns: Columns::new(random),
         }
     }
 
@@ -118,7 +121,10 @@ impl<D: Desk> Comparer<D> {
             .compare(&self.desk, random, file, &known, written)?;
         let merged = &mut counts.merged;
         self.merger
-            .compare(&self.desk, random, file, &known, merged)
+            .compare(&self.desk, random, file, &known, merged)?;
+        let (stored, restored) = (&mut counts.stored, &mut counts.restored);
+        self.columns
+            .compare(&self.desk, random, file, &known, stored, restored)
     }
 
     /// The loader's calls of a file, and of a small guard beside it.

@@ -107,7 +107,7 @@ impl fmt::Display for Calls {
     }
 }
 
-/// Counts of the checker's, the writer's or the merge's answers, by number; 0 is that of what is accepted.
+/// Counts of the answers of the checker, or of a call that writes a file, by number; 0 is that of what is accepted.
 #[derive(Clone, Copy, Debug, Default, PartialEq, Eq)]
 pub struct Numbered(pub [u64; 19]);
 
@@ -142,6 +142,8 @@ pub struct Counts {
     pub checked: Numbered,
     pub written: Numbered,
     pub merged: Numbered,
+    pub stored: Numbered,
+    pub restored: Numbered,
     pub most_nodes: u32,
     pub most_rows: usize,
     /// Of the loader's calls.
@@ -187,6 +189,8 @@ impl Counts {
         merge_all(&mut self.checked.0, &other.checked.0);
         merge_all(&mut self.written.0, &other.written.0);
         merge_all(&mut self.merged.0, &other.merged.0);
+        merge_all(&mut self.stored.0, &other.stored.0);
+        merge_all(&mut self.restored.0, &other.restored.0);
         self.most_nodes = self.most_nodes.max(other.most_nodes);
         self.most_rows = self.most_rows.max(other.most_rows);
         self.most_loaded = self.most_loaded.max(other.most_loaded);
@@ -204,6 +208,8 @@ impl fmt::Display for Counts {
             checked,
             written,
             merged,
+            stored,
+            restored,
             ..
         } = self;
         write!(f, "files {}: {files}", files.total())?;
@@ -213,6 +219,8 @@ impl fmt::Display for Counts {
         write!(f, "check {}: {checked}", checked.total())?;
         write!(f, "write {}: {written}", written.total())?;
         write!(f, "merge {}: {merged}", merged.total())?;
+        write!(f, "store {}: {stored}", stored.total())?;
+        write!(f, "restore {}: {restored}", restored.total())?;
         let (nodes, rows, record) = (self.most_nodes, self.most_rows, self.longest_record);
         writeln!(
             f,

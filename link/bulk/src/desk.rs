@@ -44,6 +44,14 @@ pub trait Desk {
     fn merge(&self, first: &[u8], second: &[u8], out: &mut [u8]) -> i64 {
         raw::merge_into(first, second, out)
     }
+
+    fn store(&self, file: &[u8], out: &mut [u8]) -> i64 {
+        raw::store_into(file, out)
+    }
+
+    fn restore(&self, stored: &[u8], out: &mut [u8]) -> i64 {
+        raw::restore_into(stored, out)
+    }
 }
 
 #[derive(Clone, Copy)]
@@ -109,6 +117,22 @@ pub mod planted {
     impl<M: Fn(&[u8], &[u8], &mut [u8]) -> i64> Desk for Merge<M> {
         fn merge(&self, first: &[u8], second: &[u8], out: &mut [u8]) -> i64 {
             (self.0)(first, second, out)
+        }
+    }
+
+    pub struct Store<S>(pub S);
+
+    impl<S: Fn(&[u8], &mut [u8]) -> i64> Desk for Store<S> {
+        fn store(&self, file: &[u8], out: &mut [u8]) -> i64 {
+            (self.0)(file, out)
+        }
+    }
+
+    pub struct Restore<R>(pub R);
+
+    impl<R: Fn(&[u8], &mut [u8]) -> i64> Desk for Restore<R> {
+        fn restore(&self, stored: &[u8], out: &mut [u8]) -> i64 {
+            (self.0)(stored, out)
         }
     }
 }

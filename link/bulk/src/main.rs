@@ -6,6 +6,7 @@
 mod buffers;
 mod calls;
 mod checks;
+mod columns;
 mod compare;
 mod counts;
 mod desk;
@@ -25,6 +26,7 @@ use desk::{Desk, Library};
 use files::Maker;
 use mismatch::Mismatch;
 use oracle::random::Random;
+use oracle::vectors::columns::Asked;
 use oracle::vectors::merges::Pair;
 use std::fs;
 use std::process::ExitCode;
@@ -37,10 +39,12 @@ usage: bulk [smt] [--files N] [--seed S] [--threads T] [--limit NODES]
        bulk records FILE
        bulk lists FILE
        bulk merges FILE
+       bulk columns FILE
 N files (20000) from the seed S (1) in T threads (1). Guards of more nodes than the limit (20000, at most 1000000) are
 compared with budgets up to it only; SPENT in the line of files counts them. With smt nothing is compared: the guards are
 printed in SMT-LIB 2, each with the library's verdict, those within the limit only. With records the library's checker
-answers the lines of records.txt, with lists its writer those of lists.txt, with merges its merge those of merges.txt.";
+answers the lines of records.txt, with lists its writer those of lists.txt, with merges its merge those of merges.txt, with
+columns its store and its way back those of columns.txt.";
 
 /// The stack of a thread: what a call needs, and plenty for the solver.
 const STACK: usize = 8 << 20;
@@ -150,6 +154,7 @@ fn main() -> ExitCode {
         ["records", path] => return compare_lines(path, "check", checks::compare_lines),
         ["lists", path] => return compare_lines(path, "write", outputs::compare_lines::<Vec<i64>>),
         ["merges", path] => return compare_lines(path, "merge", outputs::compare_lines::<Pair>),
+        ["columns", path] => return compare_lines(path, "store", outputs::compare_lines::<Asked>),
         ["smt", ..] => options(&words[1..]).map(|options| print_smt(&options)),
         _ => options(&words).map(|options| compare_files(&options)),
     }
@@ -248,11 +253,13 @@ mod tests {
         assert!(loaded.answers.refused.iter().all(|&many| many > 0));
         assert!(loaded.too_short > 0 && loaded.outgrown == 0 && counts.most_loaded > 1);
         assert!(counts.decided.outgrown == 0 && counts.explained.outgrown > 0);
-        // Questions that the checker, the writer and the merge don't ask.
-        let never: [(Numbered, &[usize]); 3] = [
+        // Questions that the checker, the writer, the merge, the store and the way back don't ask.
+        let never: &[(Numbered, &[usize])] = &[
             (counts.checked, &[1, 11, 14, 15, 16, 17, 18]),
             (counts.written, &[1, 3, 11, 12, 13, 15, 16, 17]),
             (counts.merged, &[1, 11, 12, 13, 17, 18]),
+            (counts.stored, &[1, 11, 12, 13, 15, 16, 17, 18]),
+            (counts.restored, &[1, 11, 12, 13, 15, 16, 17, 18]),
         ];
         for (numbered, never) in never {
             for (answer, many) in numbered.0.into_iter().enumerate() {

@@ -1,4 +1,4 @@
-//! Calls that write a guard file into an output buffer: what they return, every byte that they leave, and the margins.
+//! Calls that write a file into an output buffer: what they return, every byte that they leave, and the margins.
 
 use crate::buffers::{Buffer, MOST_EXTRA};
 use crate::compare::{all_zero, ensure};
@@ -104,7 +104,7 @@ pub fn rooms(random: &mut Random, exact: usize) -> [usize; ROOMS] {
     ]
 }
 
-/// All lines of `lists.txt` or of `merges.txt`.
+/// All lines of `lists.txt`, of `merges.txt` or of `columns.txt`.
 pub fn compare_lines<G: Given>(desk: &impl Desk, text: &str) -> Result<Numbered, String> {
     let random = &mut Random::named("lines");
     let lines = parse::<G>(text)?;
@@ -126,7 +126,7 @@ pub fn compare_lines<G: Given>(desk: &impl Desk, text: &str) -> Result<Numbered,
     Ok(counts)
 }
 
-/// What the tests of both calls share.
+/// What the tests of these calls share.
 #[cfg(test)]
 pub mod planted {
     use crate::files::Maker;

@@ -1,6 +1,7 @@
-//! The library's six functions over the caller's own buffers, for programs that keep buffers between calls or look at every
+//! The library's functions over the caller's own buffers, for programs that keep buffers between calls or look at every
 //! number of them. The only unsafe code of the crate. [`decide`](crate::decide), [`load`](crate::load), [`explain`](crate::explain),
-//! [`check`](crate::check), [`write`](crate::write) and [`merge`](crate::merge) are easier to use.
+//! [`check`](crate::check), [`write`](crate::write), [`merge`](crate::merge), [`store`](crate::store) and
+//! [`restore`](crate::restore) are easier to use.
 //!
 //! ```
 //! use guarddesk::raw::{decide_into, ANSWERED, ANSWER_LENGTH, PLACES_LENGTH, ROWS_LENGTH, SAT};
@@ -104,6 +105,16 @@ extern "C" {
         first_length: usize,
         second: *const u8,
         second_length: usize,
+        out: *mut u8,
+        out_length: usize,
+    ) -> i64;
+
+    fn guarddesk_store(file: *const u8, file_length: usize, out: *mut u8, out_length: usize)
+        -> i64;
+
+    fn guarddesk_restore(
+        stored: *const u8,
+        stored_length: usize,
         out: *mut u8,
         out_length: usize,
     ) -> i64;
@@ -243,6 +254,27 @@ pub fn merge_into(first: &[u8], second: &[u8], out: &mut [u8]) -> i64 {
             out.len(),
         )
     }
+}
+
+/// Stores a guard file with its term rows by column in front of `out`. A file and a buffer of any length are safe.
+///
+/// It returns the number of stored bytes, which is that of the file; those behind them are zero. [`FILE_LENGTH`] bytes always
+/// suffice. A number below 0 is minus the first question that got a no, 2 to 10 of the file, or 14 if `out` is shorter than the
+/// stored bytes; then all of `out` is zero.
+#[allow(unsafe_code)]
+pub fn store_into(file: &[u8], out: &mut [u8]) -> i64 {
+    // SAFETY: as in `decide_into`; `out` is written and borrowed mutably.
+    unsafe { guarddesk_store(file.as_ptr(), file.len(), out.as_mut_ptr(), out.len()) }
+}
+
+/// Gives back the guard file that these bytes are stored of, in front of `out`. Stored bytes and a buffer of any length are safe.
+///
+/// It returns what [`store_into`] does, of the file. The questions 2 to 10 are asked up to the number of terms as of a file, then
+/// in the columns, then of the restored file; `link/guarddesk.h` has the details.
+#[allow(unsafe_code)]
+pub fn restore_into(stored: &[u8], out: &mut [u8]) -> i64 {
+    // SAFETY: as in `decide_into`; `out` is written and borrowed mutably.
+    unsafe { guarddesk_restore(stored.as_ptr(), stored.len(), out.as_mut_ptr(), out.len()) }
 }
 
 #[cfg(test)]
@@ -427,6 +459,46 @@ mod tests {
             for room in [0, 1, DEAD_TWICE.len() - 1] {
                 let mut out = vec![7; room];
                 assert_eq!(merge_into(first, second, &mut out), code);
+                assert!(out.iter().all(|&n| n == 0));
+            }
+        }
+    }
+
+    // The dead guard by column: both kinds, both types, both values.
+    const DEAD_STORED: &[u8] = &[1, 0, 2, 1, 1, 0, 0, 5, 8, 1, 0, 0, 1];
+
+    #[test]
+    fn stored_and_restored_bytes_have_zeros_behind_them() {
+        let length = DEAD.len();
+        for room in [length, length + 1, FILE_LENGTH, 1000] {
+            let mut out = vec![7; room];
+            assert_eq!(store_into(DEAD, &mut out), length as i64);
+            assert_eq!(&out[..length], DEAD_STORED);
+            assert!(out[length..].iter().all(|&n| n == 0));
+            out.fill(7);
+            assert_eq!(restore_into(DEAD_STORED, &mut out), length as i64);
+            assert_eq!(&out[..length], DEAD);
+            assert!(out[length..].iter().all(|&n| n == 0));
+        }
+    }
+
+    #[test]
+    fn refused_stores_leave_zeros() {
+        // Too short an output; no file; a kind that isn't listed; more behind the last line.
+        let longer = [DEAD, &[0]].concat();
+        let longer_stored = [DEAD_STORED, &[0]].concat();
+        for (file, stored, code) in [
+            (DEAD, DEAD_STORED, -14),
+            (&[], &[], -2),
+            (&[1, 0, 1, 4], &[1, 0, 1, 4], -6),
+            (&longer, &longer_stored, -10),
+        ] {
+            for room in [0, 1, DEAD.len() - 1] {
+                let mut out = vec![7; room];
+                assert_eq!(store_into(file, &mut out), code);
+                assert!(out.iter().all(|&n| n == 0));
+                out.fill(7);
+                assert_eq!(restore_into(stored, &mut out), code);
                 assert!(out.iter().all(|&n| n == 0));
             }
         }

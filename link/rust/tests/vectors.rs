@@ -1,7 +1,8 @@
 //! All vectors of the repository through the library: verdicts, node counts and splits, records, what the checker says of others, files
-//! written from lists and merged files are those of the outside solver; and the records that the library writes are accepted.
-use guarddesk::{check, decide, explain, load, merge, raw, write};
-use guarddesk::{Answer, Branch, MergeRefusal, Question, Refusal};
+//! written from lists, merged files and files by column are those of the outside solver; and the records that the library writes are
+//! accepted.
+use guarddesk::{check, decide, explain, load, merge, raw, restore, store, write};
+use guarddesk::{Answer, Branch, MergeRefusal, Question, Refusal, StoreRefusal};
 
 const VECTORS: &str = concat!(env!("CARGO_MANIFEST_DIR"), "/../../vectors");
 
@@ -193,6 +194,23 @@ fn merge_all() {
     );
 }
 
+fn store_and_restore_all() {
+    for_each_line("columns.txt", 1000, |[name, room, way, input, expected]| {
+        let input = bytes(input);
+        let of = |StoreRefusal(question)| question;
+        let (call, whole): (fn(&[u8], &mut [u8]) -> i64, _) = match way {
+            "store" => (raw::store_into, store(&input).map_err(of)),
+            "restore" => (raw::restore_into, restore(&input).map_err(of)),
+            _ => panic!("{name}"),
+        };
+        if let Ok(bytes) = &whole {
+            let other = if way == "store" { restore } else { store };
+            assert_eq!(other(bytes), Ok(input.clone()), "{name}");
+        }
+        check_output([name, room, expected], |out| call(&input, out), whole);
+    });
+}
+
 /// In a thread with the stack that the crate's documentation asks for.
 fn in_the_stack_asked_for(run: fn()) {
     let thread = std::thread::Builder::new().stack_size(820 * 1024);
@@ -227,6 +245,11 @@ fn files_of_all_lists() {
 #[test]
 fn merged_files_of_all_pairs() {
     in_the_stack_asked_for(merge_all);
+}
+
+#[test]
+fn files_by_column_and_back() {
+    in_the_stack_asked_for(store_and_restore_all);
 }
 
 #[test]

@@ -64,11 +64,7 @@ pub fn damage(random: &mut Random, question: Question) -> Vec<u8> {
     let mut tokens = whole(random).tokens(Limits::BASE);
     let at = random.below(tokens.len());
     let token = &mut tokens[at];
-    let beyond = match random.below(4) {
-        0 => u64::from(u32::MAX) - 300,
-        1 => 128,
-        _ => random.below(4) as u64,
-    };
+    let beyond = beyond(random);
     match (question, token.role) {
         (Question::NumberEnds, _) => {
             let mut file = bytes(&tokens[..=at]);
@@ -95,6 +91,15 @@ pub fn damage(random: &mut Random, question: Question) -> Vec<u8> {
         file.truncate(keep);
     }
     file
+}
+
+/// How far a number is beyond what it may be, less one.
+pub(super) fn beyond(random: &mut Random) -> u64 {
+    match random.below(4) {
+        0 => u64::from(u32::MAX) - 300,
+        1 => 128,
+        _ => random.below(4) as u64,
+    }
 }
 
 /// The file with one number in a wrong form.

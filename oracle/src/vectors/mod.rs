@@ -2,6 +2,7 @@
 
 pub mod broken;
 mod cases;
+pub mod columns;
 mod families;
 pub mod far;
 pub mod lists;

@@ -1,8 +1,8 @@
-//! Calls that write a guard file into an output buffer, with their answers:
-//! what `lists.txt` and `merges.txt` have on their lines.
+//! Calls that write a file into an output buffer, with their answers: what
+//! `lists.txt`, `merges.txt` and `columns.txt` have on their lines.
 
 use super::{hex, parse_lines, unhex, Vector};
-use crate::encode::{Draft, Token};
+use crate::encode::{Draft, Role, Token};
 use crate::guard::{Guard, Limits};
 use crate::random::Random;
 use crate::read::read;
@@ -122,6 +122,13 @@ pub fn sources<'v>(vectors: impl IntoIterator<Item = &'v Vector>) -> Vec<Source>
 pub fn one_of<'s, T>(random: &mut Random, all: &'s [T]) -> Option<&'s T> {
     let all: Vec<&T> = all.iter().collect();
     random.pick(&all)
+}
+
+/// A place whose number has such a role.
+pub fn place(random: &mut Random, tokens: &[Token], fits: impl Fn(Role) -> bool) -> Option<usize> {
+    let fits = |&at: &usize| fits(tokens[at].role);
+    let places: Vec<usize> = (0..tokens.len()).filter(fits).collect();
+    random.pick(&places)
 }
 
 /// The calls as the text of their file, behind its header.

@@ -1,4 +1,4 @@
-//! The kept lists and pairs of `vectors/`, with their answers.
+//! The kept lists, pairs and stored files of `vectors/`, with their answers.
 
 use std::fs;
 use std::path::Path;

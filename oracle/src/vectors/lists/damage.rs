@@ -6,14 +6,7 @@ use crate::list::of_tokens;
 use crate::number;
 use crate::random::Random;
 use crate::vectors::broken;
-
-/// A place whose number has such a role.
-fn place(random: &mut Random, tokens: &[Token], fits: impl Fn(Role) -> bool) -> Option<usize> {
-    let places: Vec<usize> = (0..tokens.len())
-        .filter(|&at| fits(tokens[at].role))
-        .collect();
-    random.pick(&places)
-}
+use crate::vectors::written::place;
 
 /// Any number of 64 bits, small ones and those at the ends more often.
 fn any(random: &mut Random) -> i64 {
