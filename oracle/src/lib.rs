@@ -1,7 +1,7 @@
 //! A second, separately written solver for guard files.
 //!
 //! It is written from document 01 and requests #101, #102, #104, #105, #107, #108,
-//! #110 and #114 of document 02 alone, and favours plain code over speed: the closure is
+//! #110, #113 and #114 of document 02 alone, and favours plain code over speed: the closure is
 //! saturated from scratch at every node of the search. It gives the expected
 //! answers of the test vectors, checks printed answers, writes guard files from
 //! lists of numbers, merges two guard files, and searches in any order.
@@ -10,6 +10,7 @@
 //! a part of itself is a cycle, and "the walk" is the search.
 
 pub mod answer;
+pub mod branch;
 pub mod closure;
 pub mod encode;
 pub mod guard;

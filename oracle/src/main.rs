@@ -13,8 +13,10 @@ use oracle::order::{self, Rule, Size};
 use oracle::problem::Problem;
 use oracle::random::Random;
 use oracle::read::Question;
-use oracle::vectors::{self, lists, loads, merges, records, summaries, Vector, USUAL_BUDGET};
-use oracle::{list, read, record, smt, tables, text};
+use oracle::vectors::{
+    self, branches, lists, loads, merges, records, summaries, Vector, USUAL_BUDGET,
+};
+use oracle::{branch, list, read, record, smt, tables, text};
 
 const USAGE: &str = "\
 usage: oracle answer FILE [--budget N]        the answer to a guard file
@@ -27,6 +29,8 @@ usage: oracle answer FILE [--budget N]        the answer to a guard file
                                               their values
        oracle write LIST                      the guard file of such numbers, in hexadecimal
        oracle merge FIRST SECOND              the two guards as one file, in hexadecimal
+       oracle procedure FILE [--budget N]     which branches of a procedure can't run, and
+                                              which two can together
        oracle orders FILE                     the whole search trees of a guard by other
                                               orders of splitting: their nodes and open
                                               leaves, and 2 x W - 1
@@ -45,6 +49,8 @@ usage: oracle answer FILE [--budget N]        the answer to a guard file
        oracle loads [--check] DIR             writes or checks DIR/loads.txt, with
                                               files of DIR/vectors.txt
        oracle summaries [--check] DIR         writes or checks DIR/summaries.txt, with
+                                              files of DIR/vectors.txt
+       oracle branches [--check] DIR          writes or checks DIR/branches.txt, with
                                               files of DIR/vectors.txt
        oracle pack VECTORS OUT                packs vectors into one binary file
        oracle tables [--check] VECTORS DIR    writes or checks DIR/stdin, the packed
@@ -99,6 +105,8 @@ fn run(words: &[&str]) -> Result<(), Failure> {
         ["list", file] => list_command(file),
         ["write", list] => write_command(list),
         ["merge", first, second] => merge_command(first, second),
+        ["procedure", file] => procedure_command(file, USUAL_BUDGET),
+        ["procedure", file, "--budget", n] => procedure_command(file, budget(n)?),
         ["orders", "--check", vectors] => check_orders(vectors),
         ["orders", file] => orders_command(file),
         ["orders", file, "--rule", name] => order_command(file, named_rule(name)?),
@@ -116,6 +124,8 @@ fn run(words: &[&str]) -> Result<(), Failure> {
         ["loads", dir] => write_kept(&LOADS, dir),
         ["summaries", "--check", dir] => check_kept(&SUMMARIES, dir),
         ["summaries", dir] => write_kept(&SUMMARIES, dir),
+        ["branches", "--check", dir] => check_kept(&BRANCHES, dir),
+        ["branches", dir] => write_kept(&BRANCHES, dir),
         ["pack", vectors, out] => pack_command(vectors, out),
         ["tables", "--check", vectors, dir] => check_run(vectors, dir, tables::summaries),
         ["tables", vectors, dir] => write_run(vectors, dir, tables::summaries),
@@ -255,6 +265,11 @@ fn merge_command(first: &str, second: &str) -> Result<(), Failure> {
     print(&format!("{}\n", vectors::hex(&merged)))
 }
 
+/// As the program `branchdesk` prints it.
+fn procedure_command(file: &str, budget: u32) -> Result<(), Failure> {
+    print(&branch::printed(&load(file)?, budget))
+}
+
 /// Larger trees are given up.
 const MOST_NODES: u32 = 1_000_000;
 const MOST_CLOSURES: u32 = 100_000;
@@ -381,6 +396,15 @@ const SUMMARIES: Kept = Kept {
     make: |dir| {
         let all = summaries::all(&vectors_of(dir)?);
         Ok((summaries::text(&all), all.len()))
+    },
+};
+
+const BRANCHES: Kept = Kept {
+    name: "branches.txt",
+    what: "procedures",
+    make: |dir| {
+        let all = branches::all(&vectors_of(dir)?);
+        Ok((branches::text(&all), all.len()))
     },
 };
 
