@@ -2,16 +2,18 @@
  * The guard desk: whether a guard over message fields can hold at all and, where it can, messages that make it hold; where it
  * cannot, a record of every branch that was tried, and a check of such records. And a writer of guard files, for programs that
  * make guards, a merge of two guards that have to hold at once, and a store of guard files by column. guarddesk_load is the desk's
- * call for less memory.
+ * call for less memory. And the branches of a procedure, which of them can run and which two together; and a guard's summary, which
+ * variants each term can have.
  *
- * Eight functions, in libdesklink.a (x86-64 Linux). What they give is proved for every file, budget, record, list and buffer length;
+ * Eleven functions, in libdesklink.a (x86-64 Linux). What they give is proved for every file, budget, record, list and buffer length;
  * docs/EMBEDDING.md says what rests on what.
  *
  *   - They allocate nothing, keep nothing between calls and call nothing but memcpy and memset. Calls in several
  *     threads at once are fine, each with its own buffers.
  *   - They always end. The budget bounds the time of guarddesk_decide and guarddesk_load: no more nodes than that are searched. At the limits of a
  *     guard a node was measured at 1 to 1.8 microseconds (docs/BENCHMARKS.md). guarddesk_explain visits the nodes of a closed search
- *     once more, guarddesk_check at most those of the record. The others search nothing.
+ *     once more, guarddesk_check at most those of the record. guarddesk_branches searches at most 36 guards, guarddesk_summarize and
+ *     guarddesk_add_line one for each variant of each term's type (384 at the most), each within the budget. The others search nothing.
  *   - Each needs 820 KB of stack or less, guarddesk_load 260 KB, guarddesk_write, guarddesk_merge, guarddesk_store and guarddesk_restore 13 KB
  *     (docs/EMBEDDING.md counts the bytes).
  */
@@ -59,6 +61,12 @@ extern "C" {
 
 /* How many bytes of output always suffice for the calls that write a file or store one: no guard file is longer. */
 #define GUARDDESK_FILE_LENGTH 585
+
+/* How many bytes guarddesk_branches has to be lent: 8 branches and 28 pairs. Longer buffers are fine; they are cleared to their end. */
+#define GUARDDESK_BRANCHES_LENGTH 36
+
+/* How many numbers a summary has: two for each of 24 terms. Longer buffers are fine; numbers behind the summary stay as they were. */
+#define GUARDDESK_SUMMARY_LENGTH 48
 
 /* The nodes of a record, by their first number. */
 #define GUARDDESK_EMPTY_LABEL 0      /* a term: no variant is left for it */
@@ -215,6 +223,55 @@ int64_t guarddesk_store(const uint8_t *file, size_t file_length, uint8_t *out, s
  * built term's type and variant 5 and 7; then the restored file is asked whole; -14 last.
  */
 int64_t guarddesk_restore(const uint8_t *stored, size_t stored_length, uint8_t *out, size_t out_length);
+
+/*
+ * Decides the branches of a procedure, and each pair of them, within a budget of nodes for each. The file of a procedure has types and
+ * terms as a guard file, then the number of branches, 1 to 8, and for each branch the number of its lines and these lines.
+ *
+ * It returns the number of branches, b. out[0] to out[b - 1] are then the verdicts on the branches, as GUARDDESK_SAT, GUARDDESK_UNSAT
+ * and GUARDDESK_SPENT: a branch that is UNSAT can never run. Behind them is one byte for each pair, by lower branch and then higher (0 1,
+ * 0 2, .., 1 2, ..): a pair is decided with the lines of both, those of the lower branch first, and two that are SAT can run together.
+ * Bytes behind the last pair are 0. Otherwise it returns a number below 0, minus the first question that got a no, and all of out is 0:
+ *    -1  out has fewer than 36 bytes
+ *    -2 to -10  of the file, as for guarddesk_decide; each branch has at most 32 lines, and 10 is asked after the last branch
+ *   -19  the number of branches is 0 or above 8; this is asked after 2 and 3 of that number
+ *
+ * The caller owes what guarddesk_decide asks, for these two areas.
+ */
+int64_t guarddesk_branches(const uint8_t *procedure, size_t procedure_length, uint32_t budget,
+                           uint8_t *out, size_t out_length);
+
+/*
+ * Makes the summary of a guard: which variants its terms can have. summary[2 * i] are the variants of term i that are settled, bit v for
+ * variant v, and summary[2 * i + 1] those of them that can occur: with the line "term i is variant v" the guard can hold. A variant is
+ * unsettled exactly if the search with that line takes more nodes than the budget. Both are 0 for a term of number type, and for one that
+ * the file doesn't have.
+ *
+ * It returns 0, or the first question that got a no; then summary is as it was:
+ *    1  summary has fewer than 48 numbers
+ *    2 to 10  of the file, as for guarddesk_decide
+ *
+ * The caller owes what guarddesk_decide asks, for these two areas.
+ */
+uint32_t guarddesk_summarize(const uint8_t *file, size_t file_length, uint32_t budget,
+                             uint16_t *summary, size_t summary_length);
+
+/*
+ * Brings the summary of a guard up to date with a line that is added to it; line has the bytes of that line as they would stand in the
+ * file. Variants that the lent summary has as settled and not as possible are kept so without a search, and every other one is searched
+ * for anew, in the guard with the line. If the lent summary is true of the guard in the file, the new one is true of the guard with
+ * the line.
+ *
+ * It returns 0, or the first question that got a no; then summary is as it was:
+ *    1  summary has fewer than 48 numbers
+ *    2 to 10  of the file, as for guarddesk_decide
+ *    4  the file has 32 lines
+ *    2, 3, 5, 6, 7 and 10  of the line's bytes, as for a line of the file
+ *
+ * The caller owes what guarddesk_decide asks, for these three areas; file and line may overlap each other.
+ */
+uint32_t guarddesk_add_line(const uint8_t *file, size_t file_length, const uint8_t *line, size_t line_length,
+                            uint32_t budget, uint16_t *summary, size_t summary_length);
 
 #ifdef __cplusplus
 }

@@ -1,7 +1,8 @@
 //! A second, separately written solver for guard files.
 //!
 //! It is written from document 01 and requests #101, #102, #104, #105, #107, #108,
-//! #110, #111 and #114 of document 02 alone, and favours plain code over speed: the closure is
+//! #110, #111, #113 and #114 of document 02 alone, and favours plain code over speed: the
+//! closure is
 //! saturated from scratch at every node of the search. It gives the expected
 //! answers of the test vectors, checks printed answers, writes guard files from
 //! lists of numbers, merges two guard files, stores files by column and restores them,
@@ -11,6 +12,7 @@
 //! a part of itself is a cycle, and "the walk" is the search.
 
 pub mod answer;
+pub mod branch;
 pub mod closure;
 pub mod columns;
 pub mod encode;

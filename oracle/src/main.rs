@@ -14,9 +14,10 @@ use oracle::problem::Problem;
 use oracle::random::Random;
 use oracle::read::Question;
 use oracle::vectors::{
-    self, columns as stored, lists, loads, merges, records, summaries, Vector, USUAL_BUDGET,
+    self, branches, columns as stored, lists, loads, merges, records, summaries, Vector,
+    USUAL_BUDGET,
 };
-use oracle::{columns, list, read, record, smt, tables, text};
+use oracle::{branch, columns, list, read, record, smt, tables, text};
 
 const USAGE: &str = "\
 usage: oracle answer FILE [--budget N]        the answer to a guard file
@@ -33,6 +34,8 @@ usage: oracle answer FILE [--budget N]        the answer to a guard file
                                               hexadecimal
        oracle restore STORED                  the file that these bytes are stored of, in
                                               hexadecimal
+       oracle procedure FILE [--budget N]     which branches of a procedure can't run, and
+                                              which two can together
        oracle orders FILE                     the whole search trees of a guard by other
                                               orders of splitting: their nodes and open
                                               leaves, and 2 x W - 1
@@ -53,6 +56,8 @@ usage: oracle answer FILE [--budget N]        the answer to a guard file
        oracle loads [--check] DIR             writes or checks DIR/loads.txt, with
                                               files of DIR/vectors.txt
        oracle summaries [--check] DIR         writes or checks DIR/summaries.txt, with
+                                              files of DIR/vectors.txt
+       oracle branches [--check] DIR          writes or checks DIR/branches.txt, with
                                               files of DIR/vectors.txt
        oracle pack VECTORS OUT                packs vectors into one binary file
        oracle tables [--check] VECTORS DIR    writes or checks DIR/stdin, the packed
@@ -109,6 +114,8 @@ fn run(words: &[&str]) -> Result<(), Failure> {
         ["merge", first, second] => merge_command(first, second),
         ["store", file] => store_command(file),
         ["restore", stored] => restore_command(stored),
+        ["procedure", file] => procedure_command(file, USUAL_BUDGET),
+        ["procedure", file, "--budget", n] => procedure_command(file, budget(n)?),
         ["orders", "--check", vectors] => check_orders(vectors),
         ["orders", file] => orders_command(file),
         ["orders", file, "--rule", name] => order_command(file, named_rule(name)?),
@@ -128,6 +135,8 @@ fn run(words: &[&str]) -> Result<(), Failure> {
         ["loads", dir] => write_kept(&LOADS, dir),
         ["summaries", "--check", dir] => check_kept(&SUMMARIES, dir),
         ["summaries", dir] => write_kept(&SUMMARIES, dir),
+        ["branches", "--check", dir] => check_kept(&BRANCHES, dir),
+        ["branches", dir] => write_kept(&BRANCHES, dir),
         ["pack", vectors, out] => pack_command(vectors, out),
         ["tables", "--check", vectors, dir] => check_run(vectors, dir, tables::summaries),
         ["tables", vectors, dir] => write_run(vectors, dir, tables::summaries),
@@ -279,6 +288,11 @@ fn restore_command(stored: &str) -> Result<(), Failure> {
     print(&format!("{}\n", vectors::hex(&file)))
 }
 
+/// As the program `branchdesk` prints it.
+fn procedure_command(file: &str, budget: u32) -> Result<(), Failure> {
+    print(&branch::printed(&load(file)?, budget))
+}
+
 /// Larger trees are given up.
 const MOST_NODES: u32 = 1_000_000;
 const MOST_CLOSURES: u32 = 100_000;
@@ -414,6 +428,15 @@ const SUMMARIES: Kept = Kept {
     make: |dir| {
         let all = summaries::all(&vectors_of(dir)?);
         Ok((summaries::text(&all), all.len()))
+    },
+};
+
+const BRANCHES: Kept = Kept {
+    name: "branches.txt",
+    what: "procedures",
+    make: |dir| {
+        let all = branches::all(&vectors_of(dir)?);
+        Ok((branches::text(&all), all.len()))
     },
 };
 

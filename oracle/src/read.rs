@@ -1,12 +1,14 @@
 //! Reads a guard, asking the questions of document 01 in their order: from the
 //! bytes of a file, or from where else its numbers come.
 
+use crate::branch::{Procedure, BRANCHES};
 use crate::guard::{Guard, Limits, Line, Row, FIELDS, VARIANTS_IN_ALL, VARIANTS_PER_TYPE};
 use crate::number::{self, Width};
 use crate::types::{self, DefaultOf, Type};
 
-/// The questions of document 01, and the one that request #112 adds for the
-/// writer; a "no" refuses with the question's number.
+/// The questions of document 01, the one that request #112 adds for the writer,
+/// and the one that request #113 adds for procedures; a "no" refuses with the
+/// question's number.
 #[derive(Clone, Copy, Debug, PartialEq, Eq)]
 pub enum Question {
     BuffersLongEnough = 1,
@@ -20,6 +22,7 @@ pub enum Question {
     FieldsCanGrow = 9,
     FileEnded = 10,
     OneNumberType = 18,
+    BranchCount = 19,
 }
 
 impl Question {
@@ -99,24 +102,8 @@ pub fn read_line(bytes: &[u8], guard: &Guard) -> Result<Line, Question> {
 /// The guard of which these are the numbers.
 pub fn read_numbers(numbers: impl Numbers, limits: Limits) -> Result<Guard, Question> {
     let mut reader = Reader { numbers };
-    let (types, defaults) = reader.asked_types(limits)?;
-    let mut guard = Guard {
-        limits,
-        types,
-        defaults,
-        rows: Vec::new(),
-        row_types: Vec::new(),
-        lines: Vec::new(),
-    };
-    for _ in 0..reader.count(limits.terms)? {
-        let (row, ty) = reader.row(&guard)?;
-        guard.rows.push(row);
-        guard.row_types.push(ty);
-    }
-    for _ in 0..reader.count(limits.lines)? {
-        let line = reader.line(&guard)?;
-        guard.lines.push(line);
-    }
+    let mut guard = reader.head(limits)?;
+    guard.lines = reader.lines(&guard)?;
     Question::FileEnded.ask(reader.numbers.ended())?;
     Ok(guard)
 }
@@ -136,6 +123,23 @@ pub fn read_number(bytes: &[u8], width: Width) -> Result<(u64, usize), Question>
         number::Fault::CutOff => Question::NumberEnds,
         number::Fault::Form => Question::NumberForm,
     })
+}
+
+/// Request #113: "one file part with types and terms, then B (1 to 8) branches,
+/// each with its own L and lines". "The questions of the file apply to each
+/// branch, 10 only after the last."
+pub fn read_procedure(file: &[u8], limits: Limits) -> Result<Procedure, Question> {
+    let mut reader = Reader {
+        numbers: File { rest: file },
+    };
+    let head = reader.head(limits)?;
+    // "19, asked at B after 3, when B is out of its limits."
+    let many = reader.below(BRANCHES + 1, Question::BranchCount)?;
+    Question::BranchCount.ask(many > 0)?;
+    let branches: Result<_, _> = (0..many).map(|_| reader.lines(&head)).collect();
+    let branches = branches?;
+    Question::FileEnded.ask(reader.numbers.ended())?;
+    Ok(Procedure { head, branches })
 }
 
 struct File<'a> {
@@ -222,6 +226,31 @@ impl<N: Numbers> Reader<N> {
             types.push(ty);
         }
         Ok(types)
+    }
+
+    /// The types and the terms: a guard without lines.
+    fn head(&mut self, limits: Limits) -> Result<Guard, Question> {
+        let (types, defaults) = self.asked_types(limits)?;
+        let mut guard = Guard {
+            limits,
+            types,
+            defaults,
+            rows: Vec::new(),
+            row_types: Vec::new(),
+            lines: Vec::new(),
+        };
+        for _ in 0..self.count(limits.terms)? {
+            let (row, ty) = self.row(&guard)?;
+            guard.rows.push(row);
+            guard.row_types.push(ty);
+        }
+        Ok(guard)
+    }
+
+    /// L and the lines, over the terms of this guard.
+    fn lines(&mut self, guard: &Guard) -> Result<Vec<Line>, Question> {
+        let many = self.count(guard.limits.lines)?;
+        (0..many).map(|_| self.line(guard)).collect()
     }
 
     /// Names an earlier row, and gives its type as well.

@@ -120,6 +120,10 @@ fn wrong_use_is_said() {
         &["merges", "--check", "no such directory"],
         &["columns", "no such directory"],
         &["columns", "--check", "no such directory"],
+        &["procedure", "no such file"],
+        &["procedure", "-", "--budget", "many"],
+        &["branches", "no such directory"],
+        &["branches", "--check", "no such directory"],
         &["pack", "no such file", "out"],
         &["tables", "no such file", "."],
         &["tables", "--check", "no such file", "."],
@@ -273,6 +277,29 @@ fn merges_are_written_and_checked() {
 #[test]
 fn columns_are_written_and_checked() {
     made_and_checked("columns");
+}
+
+/// A list and its tail; it is its own tail, is so and a cons, isn't a cons.
+const THREE: &[u8] = &[
+    2, 0, 2, 0, 2, 0, 1, 2, 0, 1, 3, 0, 1, 1, 3, 1, 0, 0, 1, 2, 0, 0, 1, 2, 0, 1, 1, 3, 0, 1,
+];
+
+#[test]
+fn branches_of_a_procedure() {
+    let cases: [(&[&str], &[u8], &str); 3] = [
+        (&["procedure", "-"], THREE, "dead 1\npair 0 2\n"),
+        (
+            &["procedure", "-", "--budget", "2"],
+            THREE,
+            "dead 1\npair 0 2\nspent 0\n",
+        ),
+        (&["procedure", "-"], &[0, 0, 0], "REFUSED 19\n"),
+    ];
+    for (words, input, expected) in cases {
+        let output = oracle(words, input);
+        assert_eq!(printed(&output), expected);
+        assert_eq!(output.status.code(), Some(0));
+    }
 }
 
 /// Document 01's case j: the values −3 and 4.

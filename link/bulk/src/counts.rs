@@ -107,9 +107,10 @@ impl fmt::Display for Calls {
     }
 }
 
-/// Counts of the answers of the checker, or of a call that writes a file, by number; 0 is that of what is accepted.
+/// Counts of the answers of the checker, of a call that writes a file, of the branches' call or those of summaries, by number; 0 is
+/// that of what is accepted.
 #[derive(Clone, Copy, Debug, Default, PartialEq, Eq)]
-pub struct Numbered(pub [u64; 19]);
+pub struct Numbered(pub [u64; 20]);
 
 impl Numbered {
     /// An answer that was right.
@@ -127,7 +128,7 @@ impl fmt::Display for Numbered {
         let accepted = self.0[0];
         let refused = self.total() - accepted;
         writeln!(f, "accepted {accepted}, REFUSED {refused}")?;
-        by_question(f, 2, &self.0[2..])
+        by_question(f, 1, &self.0[1..])
     }
 }
 

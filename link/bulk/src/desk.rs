@@ -52,6 +52,18 @@ pub trait Desk {
     fn restore(&self, stored: &[u8], out: &mut [u8]) -> i64 {
         raw::restore_into(stored, out)
     }
+
+    fn branches(&self, procedure: &[u8], budget: u32, out: &mut [u8]) -> i64 {
+        raw::branches_into(procedure, budget, out)
+    }
+
+    fn summarize(&self, file: &[u8], budget: u32, summary: &mut [u16]) -> u32 {
+        raw::summarize_into(file, budget, summary)
+    }
+
+    fn add_line(&self, file: &[u8], line: &[u8], budget: u32, summary: &mut [u16]) -> u32 {
+        raw::add_line_into(file, line, budget, summary)
+    }
 }
 
 #[derive(Clone, Copy)]
@@ -133,6 +145,30 @@ pub mod planted {
     impl<R: Fn(&[u8], &mut [u8]) -> i64> Desk for Restore<R> {
         fn restore(&self, stored: &[u8], out: &mut [u8]) -> i64 {
             (self.0)(stored, out)
+        }
+    }
+
+    pub struct Branches<B>(pub B);
+
+    impl<B: Fn(&[u8], u32, &mut [u8]) -> i64> Desk for Branches<B> {
+        fn branches(&self, procedure: &[u8], budget: u32, out: &mut [u8]) -> i64 {
+            (self.0)(procedure, budget, out)
+        }
+    }
+
+    pub struct Summarize<S>(pub S);
+
+    impl<S: Fn(&[u8], u32, &mut [u16]) -> u32> Desk for Summarize<S> {
+        fn summarize(&self, file: &[u8], budget: u32, summary: &mut [u16]) -> u32 {
+            (self.0)(file, budget, summary)
+        }
+    }
+
+    pub struct AddLine<A>(pub A);
+
+    impl<A: Fn(&[u8], &[u8], u32, &mut [u16]) -> u32> Desk for AddLine<A> {
+        fn add_line(&self, file: &[u8], line: &[u8], budget: u32, summary: &mut [u16]) -> u32 {
+            (self.0)(file, line, budget, summary)
         }
     }
 }

@@ -3,6 +3,7 @@
 //! Every answer is compared, every message checked, every number of every buffer looked at. The same seed gives the same
 //! files and calls, whatever the number of threads.
 
+mod branches;
 mod buffers;
 mod calls;
 mod checks;
@@ -18,6 +19,7 @@ mod mismatch;
 mod orders;
 mod outputs;
 mod smt;
+mod summaries;
 mod writes;
 
 use compare::Comparer;
@@ -40,11 +42,14 @@ usage: bulk [smt] [--files N] [--seed S] [--threads T] [--limit NODES]
        bulk lists FILE
        bulk merges FILE
        bulk columns FILE
+       bulk branches FILE
+       bulk summaries FILE
+       bulk branches|summaries --files N --seed S
 N files (20000) from the seed S (1) in T threads (1). Guards of more nodes than the limit (20000, at most 1000000) are
 compared with budgets up to it only; SPENT in the line of files counts them. With smt nothing is compared: the guards are
 printed in SMT-LIB 2, each with the library's verdict, those within the limit only. With records the library's checker
 answers the lines of records.txt, with lists its writer those of lists.txt, with merges its merge those of merges.txt, with
-columns its store and its way back those of columns.txt.";
+columns its store and its way back those of columns.txt, with branches and summaries these calls those of branches.txt and summaries.txt; or random procedures and summaries, in one thread.";
 
 /// The stack of a thread: what a call needs, and plenty for the solver.
 const STACK: usize = 8 << 20;
@@ -155,6 +160,10 @@ fn main() -> ExitCode {
         ["lists", path] => return compare_lines(path, "write", outputs::compare_lines::<Vec<i64>>),
         ["merges", path] => return compare_lines(path, "merge", outputs::compare_lines::<Pair>),
         ["columns", path] => return compare_lines(path, "store", outputs::compare_lines::<Asked>),
+        ["branches", path] => return compare_lines(path, "branches", branches::compare_lines),
+        ["summaries", path] => return compare_lines(path, "summaries", summaries::compare_lines),
+        ["branches", ..] => options(&words[1..]).map(|o| compare_random(&o, branches::compare)),
+        ["summaries", ..] => options(&words[1..]).map(|o| compare_random(&o, summaries::compare)),
         ["smt", ..] => options(&words[1..]).map(|options| print_smt(&options)),
         _ => options(&words).map(|options| compare_files(&options)),
     }
@@ -204,7 +213,12 @@ fn compare_lines(
             return ExitCode::from(2);
         }
     };
-    match compare(&Library, &text) {
+    told(call, compare(&Library, &text))
+}
+
+/// The calls of one kind, counted, or what was wrong.
+fn told(call: &str, counts: Result<Numbered, String>) -> ExitCode {
+    match counts {
         Ok(counts) => {
             print!("{call} {}: {counts}", counts.total());
             println!("all right");
@@ -215,6 +229,19 @@ fn compare_lines(
             ExitCode::FAILURE
         }
     }
+}
+
+/// Random files through one kind of call, in one thread with the stack that a call needs.
+fn compare_random(
+    options: &Options,
+    compare: fn(&Library, u64, u64) -> Result<Numbered, String>,
+) -> ExitCode {
+    let (seed, files) = (options.seed, options.files);
+    let thread = thread::Builder::new()
+        .stack_size(STACK)
+        .spawn(move || compare(&Library, seed, files))
+        .expect("a thread starts");
+    told("calls", thread.join().expect("a thread ends"))
 }
 
 #[cfg(test)]
@@ -255,11 +282,11 @@ mod tests {
         assert!(counts.decided.outgrown == 0 && counts.explained.outgrown > 0);
         // Questions that the checker, the writer, the merge, the store and the way back don't ask.
         let never: &[(Numbered, &[usize])] = &[
-            (counts.checked, &[1, 11, 14, 15, 16, 17, 18]),
-            (counts.written, &[1, 3, 11, 12, 13, 15, 16, 17]),
-            (counts.merged, &[1, 11, 12, 13, 17, 18]),
-            (counts.stored, &[1, 11, 12, 13, 15, 16, 17, 18]),
-            (counts.restored, &[1, 11, 12, 13, 15, 16, 17, 18]),
+            (counts.checked, &[1, 11, 14, 15, 16, 17, 18, 19]),
+            (counts.written, &[1, 3, 11, 12, 13, 15, 16, 17, 19]),
+            (counts.merged, &[1, 11, 12, 13, 17, 18, 19]),
+            (counts.stored, &[1, 11, 12, 13, 15, 16, 17, 18, 19]),
+            (counts.restored, &[1, 11, 12, 13, 15, 16, 17, 18, 19]),
         ];
         for (numbered, never) in never {
             for (answer, many) in numbered.0.into_iter().enumerate() {

@@ -1,8 +1,9 @@
 //! The guard desk for Rust programs: whether a guard over message fields can hold at all and, where it can, messages that
 //! make it hold.
 //!
-//! [`decide`], [`load`], [`explain`], [`check`], [`write()`], [`merge`], [`store`] and [`restore`] are safe functions over the proved library
-//! `libdesklink.a`. What that library gives is proved for every file, budget, record and list; what this crate makes of it (types, text) is tested. A guard file is at
+//! [`decide`], [`load`], [`explain`], [`check`], [`write()`], [`merge`], [`store`], [`restore`], [`branches`], [`summarize`] and [`add_line`] are
+//! safe functions over the proved library `libdesklink.a`. What that
+//! library gives is proved for every file, budget, record and list; what this crate makes of it (types, text) is tested. A guard file is at
 //! most 585 bytes long; its format is that of document 01, with values over 64 bits.
 //!
 //! ```
@@ -18,10 +19,12 @@
 //!
 //! [`explain`] has the branches of a guard that cannot hold, and [`check`] takes their record. [`write()`] makes guard files from
 //! lists of their numbers, [`merge`] one of two guards that have to hold at once. [`store`] has a file with its term rows by column,
-//! for slow memory, and [`restore`] gives it back.
+//! for slow memory, and [`restore`] gives it back. [`branches`] decides the branches of a procedure and
+//! each pair of them; [`summarize`] tells which variants the terms of a guard can have, and [`add_line`] keeps that up to date.
 //!
 //! A call needs 820 KB of stack: the main thread and threads that [`std::thread::spawn`] makes by default have more.
 
+mod branching;
 mod columns;
 mod fields;
 mod merging;
@@ -30,12 +33,15 @@ mod numbers;
 mod questions;
 pub mod raw;
 mod refutations;
+mod summaries;
 mod writer;
 
+pub use branching::{branches, Branches, ProcedureRefusal, Verdict};
 pub use columns::{restore, store, StoreRefusal};
 pub use merging::{merge, MergeRefusal};
 pub use messages::{Kind, Message, Messages, Named, Names, Parts};
 pub use refutations::{check, Branch, Question, Reason, Refutation, Term};
+pub use summaries::{add_line, summarize, Summary, SummaryRefusal};
 pub use writer::{write, Refusal};
 
 use std::fmt;

@@ -1,7 +1,8 @@
 //! The library's functions over the caller's own buffers, for programs that keep buffers between calls or look at every
 //! number of them. The only unsafe code of the crate. [`decide`](crate::decide), [`load`](crate::load), [`explain`](crate::explain),
-//! [`check`](crate::check), [`write`](crate::write), [`merge`](crate::merge), [`store`](crate::store) and
-//! [`restore`](crate::restore) are easier to use.
+//! [`check`](crate::check), [`write`](crate::write), [`merge`](crate::merge), [`store`](crate::store),
+//! [`restore`](crate::restore), [`branches`](crate::branches), [`summarize`](crate::summarize) and
+//! [`add_line`](crate::add_line) are easier to use.
 //!
 //! ```
 //! use guarddesk::raw::{decide_into, ANSWERED, ANSWER_LENGTH, PLACES_LENGTH, ROWS_LENGTH, SAT};
@@ -29,6 +30,11 @@ pub const RECORD_BYTES_PER_NODE: usize = 3;
 
 /// How many bytes suffice for every guard file.
 pub const FILE_LENGTH: usize = 585;
+
+/// How many bytes [`branches_into`] has to be lent: 8 branches and 28 pairs.
+pub const BRANCHES_LENGTH: usize = 36;
+/// How many numbers a summary has: two for each of 24 terms.
+pub const SUMMARY_LENGTH: usize = 48;
 
 /// The call was answered.
 pub const ANSWERED: u32 = 0;
@@ -118,6 +124,32 @@ extern "C" {
         out: *mut u8,
         out_length: usize,
     ) -> i64;
+
+    fn guarddesk_branches(
+        procedure: *const u8,
+        procedure_length: usize,
+        budget: u32,
+        out: *mut u8,
+        out_length: usize,
+    ) -> i64;
+
+    fn guarddesk_summarize(
+        file: *const u8,
+        file_length: usize,
+        budget: u32,
+        summary: *mut u16,
+        summary_length: usize,
+    ) -> u32;
+
+    fn guarddesk_add_line(
+        file: *const u8,
+        file_length: usize,
+        line: *const u8,
+        line_length: usize,
+        budget: u32,
+        summary: *mut u16,
+        summary_length: usize,
+    ) -> u32;
 }
 
 /// Decides a guard file within a budget of nodes. Buffers of any length are safe.
@@ -275,6 +307,66 @@ pub fn store_into(file: &[u8], out: &mut [u8]) -> i64 {
 pub fn restore_into(stored: &[u8], out: &mut [u8]) -> i64 {
     // SAFETY: as in `decide_into`; `out` is written and borrowed mutably.
     unsafe { guarddesk_restore(stored.as_ptr(), stored.len(), out.as_mut_ptr(), out.len()) }
+}
+
+/// Decides each branch of a procedure and each pair of them within a budget of nodes. A file and a buffer of any length are safe.
+///
+/// It returns the number of branches; in front of `out` are the verdicts on the branches, then those on the pairs, by lower branch and
+/// then higher, as [`SAT`], [`UNSAT`] and [`SPENT`]; bytes behind them are zero. A number below 0 is minus the first question that got a
+/// no, 1 if `out` has fewer than [`BRANCHES_LENGTH`] bytes, 2 to 10 of the file, or 19 after 3 if there is no branch or more than 8; then
+/// all of `out` is zero.
+#[allow(unsafe_code)]
+pub fn branches_into(procedure: &[u8], budget: u32, out: &mut [u8]) -> i64 {
+    // SAFETY: as in `decide_into`; `out` is written and borrowed mutably.
+    unsafe {
+        guarddesk_branches(
+            procedure.as_ptr(),
+            procedure.len(),
+            budget,
+            out.as_mut_ptr(),
+            out.len(),
+        )
+    }
+}
+
+/// Makes the summary of a guard, its first [`SUMMARY_LENGTH`] numbers; those behind them stay as they were. A file and a buffer of any
+/// length are safe.
+///
+/// It returns 0, or the first question that got a no, 1 if `summary` is too short or 2 to 10 of the file; then all of it is as it was.
+/// Numbers 2 × i and 2 × i + 1 are the settled variants of term i, bit v for variant v, and those of them that can occur.
+#[allow(unsafe_code)]
+pub fn summarize_into(file: &[u8], budget: u32, summary: &mut [u16]) -> u32 {
+    // SAFETY: as in `decide_into`; `summary` is written and borrowed mutably.
+    unsafe {
+        guarddesk_summarize(
+            file.as_ptr(),
+            file.len(),
+            budget,
+            summary.as_mut_ptr(),
+            summary.len(),
+        )
+    }
+}
+
+/// Brings the summary of a guard up to date with a line that is added to it, given as its bytes. Files, lines and buffers of any length are
+/// safe.
+///
+/// It returns 0, or the first question that got a no, those of [`summarize_into`], 4 if the file has 32 lines, then those of the line's
+/// bytes, 10 included; then all of `summary` is as it was.
+#[allow(unsafe_code)]
+pub fn add_line_into(file: &[u8], line: &[u8], budget: u32, summary: &mut [u16]) -> u32 {
+    // SAFETY: as in `decide_into`; `summary` is written and borrowed mutably, file and line may overlap since they are only read.
+    unsafe {
+        guarddesk_add_line(
+            file.as_ptr(),
+            file.len(),
+            line.as_ptr(),
+            line.len(),
+            budget,
+            summary.as_mut_ptr(),
+            summary.len(),
+        )
+    }
 }
 
 #[cfg(test)]
@@ -482,6 +574,19 @@ mod tests {
         }
     }
 
+    // Two numbers, which one branch has as equal and the other as unequal.
+    const TWO_BRANCHES: &[u8] = &[1, 0, 2, 0, 0, 0, 0, 2, 1, 0, 0, 1, 1, 1, 0, 1];
+
+    #[test]
+    fn verdicts_have_zeros_behind_them() {
+        for room in [BRANCHES_LENGTH, BRANCHES_LENGTH + 1, 1000] {
+            let mut out = vec![7; room];
+            assert_eq!(branches_into(TWO_BRANCHES, 9, &mut out), 2);
+            assert_eq!(out[..3], [SAT as u8, SAT as u8, UNSAT as u8]);
+            assert!(out[3..].iter().all(|&n| n == 0));
+        }
+    }
+
     #[test]
     fn refused_stores_leave_zeros() {
         // Too short an output; no file; a kind that isn't listed; more behind the last line.
@@ -501,6 +606,44 @@ mod tests {
                 assert_eq!(restore_into(stored, &mut out), code);
                 assert!(out.iter().all(|&n| n == 0));
             }
+        }
+    }
+
+    #[test]
+    fn refused_procedures_leave_zeros() {
+        for (file, room, code) in [
+            (TWO_BRANCHES, BRANCHES_LENGTH - 1, -1),
+            (&[], 0, -1),
+            (&[], BRANCHES_LENGTH, -2),
+            (NO_GUARD, BRANCHES_LENGTH + 5, -19),
+        ] {
+            let mut out = vec![7; room];
+            assert_eq!(branches_into(file, 9, &mut out), code);
+            assert!(out.iter().all(|&n| n == 0));
+        }
+    }
+
+    #[test]
+    fn a_summary_leaves_what_is_behind_it() {
+        let mut summary = [7; SUMMARY_LENGTH + 2];
+        assert_eq!(summarize_into(DEAD, 9, &mut summary), 0);
+        // No term is of variant type.
+        assert!(summary[..SUMMARY_LENGTH].iter().all(|&n| n == 0));
+        assert_eq!(summary[SUMMARY_LENGTH..], [7, 7]);
+        summary.fill(7);
+        assert_eq!(add_line_into(DEAD, &[1, 0, 1], 9, &mut summary), 0);
+        assert!(summary[..SUMMARY_LENGTH].iter().all(|&n| n == 0));
+        assert_eq!(summary[SUMMARY_LENGTH..], [7, 7]);
+    }
+
+    #[test]
+    fn a_short_summary_is_question_1_and_stays() {
+        for room in [0, 1, SUMMARY_LENGTH - 1] {
+            let mut summary = vec![7; room];
+            assert_eq!(summarize_into(DEAD, 9, &mut summary), 1);
+            assert_eq!(summarize_into(&[], 9, &mut summary), 1);
+            assert_eq!(add_line_into(DEAD, &[1, 0, 1], 9, &mut summary), 1);
+            assert!(summary.iter().all(|&n| n == 7));
         }
     }
 }

@@ -1,5 +1,6 @@
 //! The test vectors: a fixed set of files with their expected answers.
 
+pub mod branches;
 pub mod broken;
 mod cases;
 pub mod columns;

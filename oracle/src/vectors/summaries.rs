@@ -1,7 +1,7 @@
 //! Request #114: files with their guards' summaries, made anew and with a line
 //! more.
 
-use super::{hex, Vector};
+use super::{hex, parse_lines, unhex, Vector};
 use crate::guard::Limits;
 use crate::read::{read, Question};
 use crate::summary::{add_line, summarize, Summary, NUMBERS};
@@ -176,4 +176,42 @@ pub fn text(calls: &[Call]) -> String {
         );
     }
     text
+}
+
+/// Reads such a text.
+pub fn parse(text: &str) -> Result<Vec<Call>, String> {
+    parse_lines(text, "a summary", parse_line)
+}
+
+fn parse_line(line: &str) -> Option<Call> {
+    let columns: Vec<&str> = line.split('\t').collect();
+    let [name, budget, old, file, line, answer] = columns[..] else {
+        return None;
+    };
+    Some(Call {
+        name: name.to_string(),
+        budget: budget.parse().ok()?,
+        old: parse_masks(old)?,
+        file: unhex(file)?,
+        line: match line {
+            "anew" => None,
+            line => Some(unhex(line)?),
+        },
+        answer: match answer.strip_prefix("REFUSED ") {
+            Some(question) => Err(question.parse().ok()?),
+            None => Ok(parse_masks(answer)?),
+        },
+    })
+}
+
+fn parse_masks(text: &str) -> Option<Summary> {
+    let bytes = unhex(text)?;
+    let mut summary = [0; NUMBERS];
+    if bytes.len() % 2 != 0 || bytes.len() > 2 * NUMBERS {
+        return None;
+    }
+    for (mask, pair) in summary.iter_mut().zip(bytes.chunks_exact(2)) {
+        *mask = u16::from_be_bytes([pair[0], pair[1]]);
+    }
+    Some(summary)
 }
