@@ -53,21 +53,23 @@ static void *merge(void *nothing)
     return nothing;
 }
 
-static uint8_t procedure[sizeof file + 1], codes[GUARDDESK_BRANCHES_LENGTH];
+static uint8_t procedure[sizeof file + 2], codes[GUARDDESK_BRANCHES_LENGTH];
 static uint16_t summary[GUARDDESK_SUMMARY_LENGTH];
 static int64_t branches_told;
 static uint32_t summary_question;
 static size_t line_count_at;
 
-/* Makes a procedure of the file, with its lines as the only branch: a 1 before the number of lines. Lines are three bytes each. */
+/* Makes a procedure of the file, with its lines as one branch and none in another, so that the pair has these lines too. Lines are three
+ * bytes each. */
 static int make_procedure(void)
 {
     for (size_t lines = 0; lines <= 32 && 3 * lines < file_length; lines++) {
         line_count_at = file_length - 3 * lines - 1;
         memcpy(procedure, file, line_count_at);
-        procedure[line_count_at] = 1;
+        procedure[line_count_at] = 2;
         memcpy(procedure + line_count_at + 1, file + line_count_at, file_length - line_count_at);
-        if (file[line_count_at] == lines && guarddesk_branches(procedure, file_length + 1, 1, codes, sizeof codes) == 1)
+        procedure[file_length + 1] = 0;
+        if (file[line_count_at] == lines && guarddesk_branches(procedure, file_length + 2, 1, codes, sizeof codes) == 2)
             return 1;
     }
     return 0;
@@ -75,7 +77,7 @@ static int make_procedure(void)
 
 static void *branches(void *nothing)
 {
-    branches_told = guarddesk_branches(procedure, file_length + 1, budget, codes, sizeof codes);
+    branches_told = guarddesk_branches(procedure, file_length + 2, budget, codes, sizeof codes);
     return nothing;
 }
 
@@ -158,7 +160,7 @@ int main(int many, char **words)
         printf("summarize %zu bytes: %u\n", summarize_used, (unsigned)summary_question);
         const size_t add_line_used = used(add_line);
         printf("add_line %zu bytes: %u\n", add_line_used, (unsigned)summary_question);
-        if (branches_told != 1 || summary_question != 0)
+        if (branches_told != 2 || summary_question != 0)
             return 1;
     }
     const size_t decided = used(decide);
