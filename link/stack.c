@@ -68,6 +68,52 @@ static void *restore(void *nothing)
     return nothing;
 }
 
+static uint8_t procedure[sizeof file + 2], codes[GUARDDESK_BRANCHES_LENGTH];
+static uint16_t summary[GUARDDESK_SUMMARY_LENGTH];
+static int64_t branches_told;
+static uint32_t summary_question;
+static size_t line_count_at;
+
+/* Makes a procedure of the file, with its lines as one branch and none in another, so that the pair has these lines too. Lines are three
+ * bytes each. */
+static int make_procedure(void)
+{
+    for (size_t lines = 0; lines <= 32 && 3 * lines < file_length; lines++) {
+        line_count_at = file_length - 3 * lines - 1;
+        memcpy(procedure, file, line_count_at);
+        procedure[line_count_at] = 2;
+        memcpy(procedure + line_count_at + 1, file + line_count_at, file_length - line_count_at);
+        procedure[file_length + 1] = 0;
+        if (file[line_count_at] == lines && guarddesk_branches(procedure, file_length + 2, 1, codes, sizeof codes) == 2)
+            return 1;
+    }
+    return 0;
+}
+
+static void *branches(void *nothing)
+{
+    branches_told = guarddesk_branches(procedure, file_length + 2, budget, codes, sizeof codes);
+    return nothing;
+}
+
+static void *summarize(void *nothing)
+{
+    summary_question = guarddesk_summarize(file, file_length, budget, summary, GUARDDESK_SUMMARY_LENGTH);
+    return nothing;
+}
+
+/* Adds the last line of the file, which has one, to the others. */
+static void *add_line(void *nothing)
+{
+    static uint8_t front[sizeof file];
+    memcpy(front, file, file_length);
+    front[line_count_at]--;
+    memset(summary, 0, sizeof summary);
+    summary_question = guarddesk_add_line(front, file_length - 3, file + file_length - 3, 3, budget,
+                                          summary, GUARDDESK_SUMMARY_LENGTH);
+    return nothing;
+}
+
 /* Runs a call and returns the bytes of its stack that were written. */
 static size_t used(void *(*call)(void *))
 {
@@ -130,6 +176,16 @@ int main(int many, char **words)
     printf("restore %zu bytes: a file of %d bytes\n", restore_used, (int)restored_length);
     if (restored_length != written_length || memcmp(restored, written, (size_t)written_length) != 0)
         return 1;
+    if (make_procedure() && file[line_count_at] > 0) {
+        const size_t branches_used = used(branches);
+        printf("branches %zu bytes: %d of them, verdict %u\n", branches_used, (int)branches_told, (unsigned)codes[0]);
+        const size_t summarize_used = used(summarize);
+        printf("summarize %zu bytes: %u\n", summarize_used, (unsigned)summary_question);
+        const size_t add_line_used = used(add_line);
+        printf("add_line %zu bytes: %u\n", add_line_used, (unsigned)summary_question);
+        if (branches_told != 2 || summary_question != 0)
+            return 1;
+    }
     const size_t decided = used(decide);
     printf("decide %zu bytes: verdict %u, %u\n", decided, (unsigned)answer[0], (unsigned)answer[1]);
     if (answer[0] != GUARDDESK_UNSAT)
