@@ -1,4 +1,4 @@
--- What is told of the branches of a procedure: a number for each branch and for each pair of them, and three lists. Assumes nothing: definitions.
+-- What is told of the branches of a procedure: a number for each branch and for each pair of them, and the lists made of these. Assumes nothing: definitions.
 -- Quoted sentences are document 02's, of request #113.
 use mathlib.Core.Bool.{cond}
 use mathlib.Core.List.{List, [], _∷_, _++_, map}

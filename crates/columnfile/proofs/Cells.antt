@@ -94,16 +94,16 @@ module _ (ts : Types) (rs : List Row) (sizes : Sizes ts) (i : ℕ) (few : i ≤ 
 -- ---- a column
 
 module _ (p : ℕ → Parser ℕ) (f : Row → List ℕ) (g : Row → ℕ) (rs : List Row) (reads : (i : ℕ) → i < length rs → Gives (p i) (f (rowAt rs i)) (g (rowAt rs i))) where
-  pub column-back : (done todo : List Row) → done ++ todo ≡ rs → Gives (columnFrom p (length todo) (map g done)) (concatMap f todo) (map g rs)
+  pub column-back : (done rest : List Row) → done ++ rest ≡ rs → Gives (columnFrom p (length rest) (map g done)) (concatMap f rest) (map g rs)
   column-back done [] e = subst (λ (xs : List Row). Gives (return (map g done)) [] (map g xs)) (sym (append-nil done) ∙ e) (gives-return (map g done))
-  column-back done (r ∷ todo) e =
-      gives-bind (p (length (map g done))) (λ x. columnFrom p (length todo) (map g done ++ (x ∷ [])))
+  column-back done (r ∷ rest) e =
+      gives-bind (p (length (map g done))) (λ x. columnFrom p (length rest) (map g done ++ (x ∷ [])))
       (subst (λ (k : ℕ). Gives (p k) (f r) (g r)) (sym (length-map done g)) here)
-      (subst (λ (xs : List ℕ). Gives (columnFrom p (length todo) xs) (concatMap f todo) (map g rs)) (map-append g done (r ∷ []))
-      (column-back (done ++ (r ∷ [])) todo (append-assoc done (r ∷ []) todo ∙ e)))
+      (subst (λ (xs : List ℕ). Gives (columnFrom p (length rest) xs) (concatMap f rest) (map g rs)) (map-append g done (r ∷ []))
+      (column-back (done ++ (r ∷ [])) rest (append-assoc done (r ∷ []) rest ∙ e)))
     where
       there : rowAt rs (length done) ≡ r
-      there = ap (λ (xs : List Row). rowAt xs (length done)) (sym e) ∙ getD-append-seam done r todo noRow
+      there = ap (λ (xs : List Row). rowAt xs (length done)) (sym e) ∙ getD-append-seam done r rest noRow
 
       here : Gives (p (length done)) (f r) (g r)
-      here = subst (λ (x : Row). Gives (p (length done)) (f x) (g x)) there (reads (length done) (omega (arith, ap length e, length-append done (r ∷ todo))))
+      here = subst (λ (x : Row). Gives (p (length done)) (f x) (g x)) there (reads (length done) (omega (arith, ap length e, length-append done (r ∷ rest))))
