@@ -1,4 +1,6 @@
 // Reads a line that is added to a guard, and puts it behind the guard's own (request #114). `specs/LineRead.antt` says what is read.
+#![tactic(auto)]
+
 ghost use Rattle.std.specs.Prelude.{◌≡◌, ◌+◌, ◌<◌, set};
 ghost use Rattle.guard.specs.Limits.{base};
 ghost use Rattle.summaries.specs.InTables.{SomeGuard};

@@ -1,4 +1,6 @@
 // An answer as five numbers in a lent buffer. `specs/Numbers.antt` says what they are.
+#![tactic(auto)]
+
 ghost use Rattle.std.specs.Prelude.{◌≡◌, ◌∷◌, ◌++◌, ◌≤◌, length, drop};
 ghost use Rattle.answernumbers.specs.Numbers.{answer_numbers};
 

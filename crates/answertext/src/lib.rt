@@ -1,5 +1,7 @@
 // An answer as text: the verdict and its node count, or REFUSED and its number; after SAT each row, and each term with its
 // row. `specs/Text.antt` says what the text is.
+#![tactic(auto)]
+
 ghost use Rattle.std.specs.Prelude.{◌≡◌, ◌+◌, ◌*◌, ◌<◌, ◌≤◌, length};
 ghost use Rattle.laws.specs.Lists.{concat_map, from};
 ghost use Rattle.guard.specs.Answer.{rows_of};

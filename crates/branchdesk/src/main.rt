@@ -1,5 +1,7 @@
 // Reads the file of a procedure from standard input, at most 2,048 bytes of it, has its branches and pairs judged within 1,000,000 nodes
 // each, and writes the lists (document 02, #113).
+#![tactic(auto)]
+
 ghost use Rattle.std.specs.Prelude.{◌≡◌, ◌≤◌, length};
 
 // Writes the text to standard output, by way of a buffer.

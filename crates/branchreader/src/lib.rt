@@ -1,5 +1,7 @@
 // Reads the file of a procedure into tables (document 02, #113): types and term rows once, then the lines of each branch. Or says which
 // question gets the first no: 2 to 9 of the head, 19 of the number of branches, 2 to 7 of each branch, 10 after the last.
+#![tactic(auto)]
+
 ghost use Rattle.std.specs.Prelude.{◌≡◌, [], ◌≤◌};
 ghost use Rattle.tables.specs.Layout.{literal_table};
 ghost use Rattle.literalreader.specs.LiteralReader.{EachBelow};

@@ -1,5 +1,7 @@
 // The branches of a procedure as text (document 02, #113): those that never run, the pairs that can run together, and what came out SPENT.
 // `specs/BranchText.antt` says what the text is.
+#![tactic(auto)]
+
 ghost use Rattle.std.specs.Prelude.{◌+◌, ◌*◌, ◌≤◌, length};
 ghost use Rattle.laws.specs.Lists.{when};
 ghost use Rattle.branches.specs.Verdicts.{lists_of};

@@ -1,5 +1,7 @@
 // What the desk says of the branches of a procedure and of each pair of them (document 02, #113): a file, a budget and a lent buffer to a
 // number for each branch, then for each pair. `specs/Verdicts.antt` of `branches` says what the numbers are.
+#![tactic(auto)]
+
 ghost use Rattle.std.specs.Prelude.{◌≡◌, ◌+◌, ◌-◌, ◌≤◌, length, replicate};
 ghost use Rattle.branches.specs.Verdicts.{asks_of, left_in};
 ghost use Rattle.branchverdicts.specs.Judging.{Fills, PutsPairs, PutsWith, Taken, TakenWith, answer_to};

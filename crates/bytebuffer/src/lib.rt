@@ -1,4 +1,6 @@
 // Bytes in a lent buffer, one behind the other, as far as they fit.
+#![tactic(auto)]
+
 ghost use Rattle.std.specs.Prelude.{◌≡◌, [], ◌∷◌, ◌≤◌, length, replicate};
 ghost use Rattle.bytebuffer.specs.Puts.{Puts};
 

@@ -1,5 +1,7 @@
 // Rows of growth: a variant over growth to a number, or down to a root and round its cycle. What goes round one cycle makes
 // one chain, each a lap longer than the one before, so no row of it is drawn twice. `specs/Chains.antt` says what is drawn.
+#![tactic(auto)]
+
 ghost use Rattle.std.specs.Prelude.{◌≡◌, suc, ◌+◌, ◌*◌, ◌-◌, ◌≤◌, ◌<◌, length, set};
 ghost use Rattle.guard.specs.Shown.{message_type};
 ghost use Rattle.guard.specs.Types.{fields_of, variants_of};

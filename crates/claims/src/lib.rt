@@ -1,5 +1,7 @@
 // What an entry of a record claims of a node that it closes: one of the four reasons, at a term or a line, tested at the node's closure. The
 // numbers of an entry come from a record, and may be any.
+#![tactic(auto)]
+
 ghost use Rattle.std.specs.Prelude.{◌≤◌, ◌<◌};
 ghost use Rattle.classes.specs.Held.{Held, state};
 ghost use Rattle.arrays.specs.Slots.{ShapesFit, SortsFit};

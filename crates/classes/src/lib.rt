@@ -1,5 +1,7 @@
 // Equivalence classes of terms, each named by its lowest member, with a label for each class: a state with one fact more.
 // There is room for 18 terms more than the 78 of today.
+#![tactic(auto)]
+
 ghost use Rattle.std.specs.Prelude.{◌≡◌, not, ◌<◌, min, max, length, get_or, set};
 ghost use Rattle.std.specs.Int.Bits.{bit_and};
 ghost use Rattle.guard.specs.Closure.{Fact.same, Fact.within, add, holds, label_of, rename};

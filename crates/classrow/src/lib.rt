@@ -1,4 +1,6 @@
 // The row of a class of an open node that something fixes: a shape over the rows of its parts, a constant, or one fieldless variant.
+#![tactic(auto)]
+
 ghost use Rattle.std.specs.Prelude.{◌≡◌, ◌+◌, ◌*◌, ◌-◌, ◌≤◌, ◌<◌, length, get_or};
 ghost use Rattle.classes.specs.Held.{Held};
 ghost use Rattle.arrays.specs.Slots.{ShapesFit};

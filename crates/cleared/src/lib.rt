@@ -1,4 +1,6 @@
 // Lent buffers set to zeros.
+#![tactic(auto)]
+
 ghost use Rattle.std.specs.Prelude.{◌≡◌, pos, length, replicate};
 
 // Sets every number to 0.

@@ -1,4 +1,6 @@
 // Which of the four reasons closes a node, and at which term or line: what the record of request #101 says of a closed node.
+#![tactic(auto)]
+
 ghost use Rattle.std.specs.Prelude.{◌≤◌};
 ghost use Rattle.classes.specs.Held.{Held, state};
 ghost use Rattle.arrays.specs.Slots.{ShapesFit, SortsFit};

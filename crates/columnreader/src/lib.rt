@@ -1,5 +1,7 @@
 // The columns of a stored guard file (request #111), read into cells: number `i` of column `j` at place 24 × j + i. `specs/Columns.antt` of
 // `columnfile` says what is read and asked.
+#![tactic(auto)]
+
 ghost use Rattle.std.specs.Prelude.{◌≡◌, [], ◌<◌, ◌≤◌, drop, length};
 ghost use Rattle.guard.specs.File.{kind, name};
 ghost use Rattle.guard.specs.Number.{unsigned, unsigned_of, value_width};

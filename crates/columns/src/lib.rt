@@ -1,5 +1,7 @@
 // Entries of columns: a number read from anywhere in a column, choices, masks of variants and numbers of types.
 // `specs/Entries.antt` says what each is.
+#![tactic(auto)]
+
 ghost use Rattle.std.specs.Prelude.{cond, ◌≡◌, ◌-◌, ◌<◌, get_or};
 ghost use Rattle.columns.specs.Entries.{bit_of, ones_of, plus_one, plus_one_if};
 

@@ -1,5 +1,7 @@
 // A guard file with its term rows by column, from the tables of its guard into a lent buffer (request #111). `specs/Columns.antt` of
 // `columnfile` says what is stored.
+#![tactic(auto)]
+
 ghost use Rattle.std.specs.Prelude.{◌≤◌, length};
 ghost use Rattle.rowterms.specs.Rows.{BuiltRow, SomeRows};
 ghost use Rattle.columnwriter.specs.Entries.{HasRow, IsEntry, PutsColumn, PutsColumns, PutsEntry, PutsLines, PutsRows, PutsStored, SomeGuard};

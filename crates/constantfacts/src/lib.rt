@@ -1,4 +1,6 @@
 // Constants of one type and one value made equal, before any rule.
+#![tactic(auto)]
+
 ghost use Rattle.std.specs.Prelude.{◌≡◌, ◌<◌};
 ghost use mathlib.Core.List.{foldl};
 ghost use Rattle.guard.specs.Closure.{add};

@@ -1,4 +1,6 @@
 // The constants of a guard by their slots: 24 rows, then the defaults of number types.
+#![tactic(auto)]
+
 ghost use Rattle.std.specs.Prelude.{◌≡◌, ◌<◌};
 ghost use Rattle.constants.specs.Constants.{constant_term, constant_value};
 

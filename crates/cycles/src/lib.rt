@@ -1,4 +1,6 @@
 // The lowest term whose class is a part of itself: the fourth reason to close a node, by name.
+#![tactic(auto)]
+
 ghost use Rattle.std.specs.Prelude.{◌<◌};
 ghost use Rattle.classes.specs.Held.{Held, state};
 ghost use Rattle.arrays.specs.Slots.{ShapesFit};

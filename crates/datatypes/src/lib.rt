@@ -1,5 +1,7 @@
 // Facts about the declared types, from the table of types: the questions 8 and 9, and the variant of each type's default.
 // `specs/Facts.antt` says what each function computes.
+#![tactic(auto)]
+
 ghost use Rattle.std.specs.Prelude.{◌≡◌, ◌<◌};
 ghost use Rattle.laws.specs.Lists.{all};
 ghost use Rattle.guard.specs.Types.{variants_of};

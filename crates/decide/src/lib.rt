@@ -1,5 +1,7 @@
 // The desk's one call, with the limits of document 01, and the flight loader's, with smaller ones (document 02, #110): a guard file, a
 // budget and two lent buffers to an answer. `Decides` (crate `decidewithin`) says what each gives.
+#![tactic(auto)]
+
 ghost use Rattle.guard.specs.Limits.{base};
 ghost use Rattle.decidewithin.specs.CallerLimits.{loader};
 ghost use Rattle.decidewithin.specs.Decides.{Decides};

@@ -1,5 +1,7 @@
 // The desk's call for any caller's limits: a guard file, a budget and two lent buffers to an answer. `specs/Decides.antt` says what it gives,
 // `specs/CallerLimits.antt` what the limits are.
+#![tactic(auto)]
+
 ghost use Rattle.std.specs.Prelude.{◌≡◌, min};
 ghost use Rattle.guard.specs.Limits.{row_buffer};
 ghost use Rattle.decidewithin.specs.CallerLimits.{limits_for};

@@ -1,4 +1,6 @@
 // Rows of defaults, drawn on demand, and of the parts of a variant: one of them given, defaults in the other fields.
+#![tactic(auto)]
+
 ghost use Rattle.std.specs.Prelude.{◌<◌, length};
 ghost use Rattle.guard.specs.Types.{default_of, fields_of, variants_of};
 ghost use Rattle.guard.proofs.MessageLaws.{message_size};

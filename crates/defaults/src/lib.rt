@@ -1,5 +1,7 @@
 // The variant of each type's default, found from the columns of the table of types by rounds, and question 8.
 // `specs/Settled.antt` says what each function computes.
+#![tactic(auto)]
+
 ghost use Rattle.std.specs.Prelude.{◌≡◌, cond, ◌<◌, ◌≤◌, eqb};
 ghost use Rattle.laws.specs.Lists.{all};
 ghost use Rattle.guard.specs.Types.{defaults};

@@ -1,6 +1,8 @@
 // Reads packed guard files from standard input, and prints the whole answer of the desk to each, as `guarddesk` does. The
 // buffers are longer than they need be and never cleared: each call meets what the last one left, and no 0 anywhere else. A
 // line says so if a number past the last row or the last place isn't 0.
+#![tactic(auto)]
+
 use guard::Answer;
 
 // ---- the buffers

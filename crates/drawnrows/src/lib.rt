@@ -1,5 +1,7 @@
 // One row drawn into the lent row buffer: of a number, or of a variant over the rows of its parts. `specs/Drawing.antt` says what a drawing
 // gives.
+#![tactic(auto)]
+
 ghost use Rattle.std.specs.Prelude.{◌≡◌, map, ◌+◌, ◌*◌, ◌≤◌, ◌<◌, pos, length};
 ghost use Rattle.rowstore.specs.Store.{made_row, many_after, row_found, with_row};
 ghost use Rattle.drawnrows.specs.Drawing.{LowRows, NumberDrawn};

@@ -1,4 +1,6 @@
 // The entries of a record, read at a cursor.
+#![tactic(auto)]
+
 ghost use Rattle.std.specs.Prelude.{◌≡◌, ◌<◌, drop};
 ghost use Rattle.refutations.specs.Checker.{entry};
 ghost use Rattle.entryreader.specs.Entries.{EntrySays};

@@ -1,4 +1,6 @@
 // The second call: as the desk's one call, and after UNSAT the record of the search. `specs/Explains.antt` says what it gives.
+#![tactic(auto)]
+
 ghost use Rattle.std.specs.Prelude.{◌≡◌};
 ghost use Rattle.guard.specs.Limits.{base};
 ghost use Rattle.explain.specs.Explains.{Explains, RecordsFile, Taken, is_unsat};

@@ -1,4 +1,6 @@
 // The fields of the variant that a row reads: the number of the variant, the term of each field, the position of each sibling.
+#![tactic(auto)]
+
 ghost use Rattle.std.specs.Prelude.{◌≡◌, ◌<◌, get_or};
 ghost use Rattle.fieldterms.specs.FieldTerms.{ReadsInRange, field_term_at, place_at, sibling_position};
 

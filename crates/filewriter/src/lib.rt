@@ -1,4 +1,6 @@
 // Writes a guard file from a list of its numbers, constants as their values. `specs/Writer.antt` says what it gives.
+#![tactic(auto)]
+
 ghost use Rattle.std.specs.Prelude.{◌≡◌, length};
 ghost use Rattle.guard.specs.Limits.{base};
 ghost use Rattle.serialize.specs.NumberList.{list_file};

@@ -1,4 +1,6 @@
 // The finite types, found from the columns of the table of types by rounds. `specs/Finite.antt` says what each function computes.
+#![tactic(auto)]
+
 ghost use Rattle.std.specs.Prelude.{◌≡◌, cond, ◌<◌};
 ghost use Rattle.finite.specs.TypeColumns.{InRange, fields_at, types_in};
 ghost use Rattle.finite.specs.Finite.{finite_column, finite_type_from, finite_variant_from, flags};

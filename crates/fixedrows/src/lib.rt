@@ -1,5 +1,7 @@
 // Rows for the classes of an open node that something fixes. They are drawn in order of rank, so the rows of the parts are there. `specs/`
 // says what is drawn.
+#![tactic(auto)]
+
 ghost use Rattle.std.specs.Prelude.{◌≡◌, suc, ◌≤◌, ◌<◌};
 ghost use Rattle.leaf.specs.Leaf.{LeafFits};
 ghost use Rattle.fixedrows.specs.Stage.{Advances, DueNow, Noted, Staged, is_due};

@@ -1,4 +1,6 @@
 // What the drawing of rows looks at: the types, the variant of each default, and how messages grow. `specs/Forms.antt` says what it is.
+#![tactic(auto)]
+
 ghost use Rattle.std.specs.Prelude.{◌≡◌, ◌*◌, ◌<◌, length};
 ghost use Rattle.guard.specs.Types.{field_type, fields_of, variants_of};
 ghost use Rattle.growth.proofs.Growth.{chosen_field, next_type};

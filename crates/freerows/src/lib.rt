@@ -1,5 +1,7 @@
 // Rows for the free classes of an open node, in order: each class gets the message that its plan says. Classes whose growth
 // goes round one cycle make one chain (`chains`). `specs/Free.antt` says what is drawn.
+#![tactic(auto)]
+
 ghost use Rattle.std.specs.Prelude.{◌≡◌, true, false, suc, ◌+◌, ◌*◌, ◌-◌, ◌≤◌, ◌<◌, pos, length};
 ghost use Rattle.guard.specs.Types.{is_number};
 ghost use Rattle.rowstore.specs.Store.{Grown};

@@ -1,4 +1,6 @@
 // The state of the root before any rule: what the guard gives.
+#![tactic(auto)]
+
 ghost use Rattle.std.specs.Prelude.{◌≡◌, length};
 ghost use mathlib.Core.List.{foldl};
 ghost use Rattle.guard.specs.Closure.{add};

@@ -1,5 +1,7 @@
 // Rows of grown messages, drawn into the lent row buffer: a variant over a row, steps of growth and whole rounds of a cycle. Only what
 // is asked for is drawn, so every new row lies under the row that is handed back.
+#![tactic(auto)]
+
 ghost use Rattle.std.specs.Prelude.{◌≡◌, ◌*◌, ◌<◌, length};
 ghost use Rattle.guard.specs.Shown.{message_type};
 ghost use Rattle.guard.specs.Types.{fields_of, variants_of};

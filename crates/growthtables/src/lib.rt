@@ -1,5 +1,7 @@
 // How messages of each type grow, from the table of types: what the drawing of fresh messages needs, made once a file.
 // `specs/Growth.antt` says what each entry is.
+#![tactic(auto)]
+
 ghost use Rattle.std.specs.Prelude.{◌≡◌};
 ghost use Rattle.tables.specs.Layout.{TypesInRange};
 ghost use Rattle.growthtables.specs.Growth.{growth_by};

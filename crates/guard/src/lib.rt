@@ -1,4 +1,5 @@
 // Document 01 of the guard desk as definitions (specs/), with what is proved of them alone (proofs/).
+#![tactic(auto)]
 
 // The answer of a call. `specs/Answer.antt` sets out the document's number and values for each case.
 #[derive(Drop)]

@@ -1,5 +1,7 @@
 // Reads a guard file from standard input, at most 1,024 bytes of it, decides it within 1,000,000 nodes, and writes the text of
 // the answer.
+#![tactic(auto)]
+
 fn answer(file: &[u8]) {
     let mut rows = [0i32; 16384];
     let mut places = [0i32; 24];

@@ -1,4 +1,6 @@
 // The bytes of a guard with lines behind its own, from tables. `specs/GuardBytes.antt` says what is put.
+#![tactic(auto)]
+
 ghost use Rattle.std.specs.Prelude.{◌≤◌, length};
 ghost use Rattle.guardwriter.specs.GuardBytes.{Askable, PutsGuard, PutsLines, PutsRows};
 

@@ -1,4 +1,6 @@
 // The types and the term rows of a file, read into tables: what stands before the lines of a guard. Questions 2 to 9 of them.
+#![tactic(auto)]
+
 ghost use Rattle.std.specs.Prelude.{◌≡◌, ◌≤◌};
 ghost use Rattle.headreader.specs.Head.{head_at, no_head};
 

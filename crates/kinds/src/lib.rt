@@ -1,4 +1,6 @@
 // What fixes a class of an open node: a shape, a constant, or one fieldless variant. A class with none of these is free.
+#![tactic(auto)]
+
 ghost use Rattle.std.specs.Prelude.{◌≡◌, ◌<◌};
 ghost use Rattle.classes.specs.Held.{Held, state};
 ghost use Rattle.arrays.specs.Slots.{ShapesFit, SortsFit};

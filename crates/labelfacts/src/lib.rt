@@ -1,4 +1,6 @@
 // The labels that terms have before any rule: all variants of their type, or the one of a built row or a default.
+#![tactic(auto)]
+
 ghost use Rattle.std.specs.Prelude.{◌≡◌, ◌^◌, ◌<◌};
 ghost use mathlib.Core.List.{foldl};
 ghost use Rattle.guard.specs.Closure.{add};

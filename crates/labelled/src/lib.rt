@@ -1,4 +1,6 @@
 // The terms that have a label, in rising order: loops over labels leave all others out.
+#![tactic(auto)]
+
 ghost use Rattle.std.specs.Prelude.{◌≡◌, ◌<◌};
 ghost use Rattle.arrays.specs.Slots.{SortsFit};
 ghost use Rattle.labelled.specs.Covers.{Lists, has_label};

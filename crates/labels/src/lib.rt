@@ -1,4 +1,6 @@
 // Labels: sets of variants as masks of 16 bits, variant v at bit v.
+#![tactic(auto)]
+
 ghost use Rattle.std.specs.Prelude.{◌≡◌, ◌||◌, ◌<◌, ◌^◌, eqb, length, get_or};
 ghost use Rattle.laws.specs.Bits.{bit};
 ghost use Rattle.labels.specs.Label.{variants_in};

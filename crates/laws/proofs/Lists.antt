@@ -24,6 +24,7 @@ module _ {A : Type 0} {P : A → Type 0} where
   all_of (x ∷ xs) f = more (f x (Memᴰ.head refl)) (all_of xs (λ y m. f y (Memᴰ.tail m)))
 
   pub all_mem : {xs : List A} → All P xs → (x : A) → Memᴰ x xs → P x
+  all_mem Rattle.laws.specs.All.none x x6 = elim x6 [ ]
   all_mem (more p ps) x (Memᴰ.head e) = subst P (sym e) p
   all_mem (more p ps) x (Memᴰ.tail m) = all_mem ps x m
 
@@ -66,6 +67,7 @@ module _ {A : Type 0} {P : A → Type 0} where
     all-concat_map f (y ∷ ys) h = all_append (h y (Memᴰ.head refl)) (all-concat_map f ys (λ z m. h z (Memᴰ.tail m)))
 
     pub concat_map_inv : (f : B → List A) (ys : List B) → All P (concat_map f ys) → (y : B) → Memᴰ y ys → All P (f y)
+    concat_map_inv f [] h y x'' = elim x'' [ ]
     concat_map_inv f (z ∷ ys) h y (Memᴰ.head e) = subst (λ w. All P (f w)) (sym e) (all_left (f z) (concat_map f ys) h)
     concat_map_inv f (z ∷ ys) h y (Memᴰ.tail m) = concat_map_inv f ys (all_right (f z) (concat_map f ys) h) y m
 
@@ -74,6 +76,7 @@ module _ {A : Type 0} {P : A → Type 0} where
     all_map f (y ∷ ys) h = more (h y (Memᴰ.head refl)) (all_map f ys (λ z m. h z (Memᴰ.tail m)))
 
 pub all-map_inv : {A B : Type 0} {P : A → Type 0} (f : B → A) (ys : List B) → All P (map f ys) → (y : B) → Memᴰ y ys → P (f y)
+all-map_inv {A = A} {B = B} {P = P} f [] _ y x3 = elim x3 [ ]
 all-map_inv {P = P} f (z ∷ ys) (more p ps) y (Memᴰ.head e) = subst (λ w. P (f w)) (sym e) p
 all-map_inv f (z ∷ ys) (more p ps) y (Memᴰ.tail m) = all-map_inv f ys ps y m
 
@@ -89,7 +92,7 @@ all_weaken f (more {x = x} p ps) = more (f x p) (all_weaken f ps)
 -- ---- membership
 
 module _ {A B : Type 0} (f : A → B) where
-  pub mem_map : {xs : List A} {x : A} → Memᴰ x xs → Memᴰ (f x) (map f xs)
+  pub mem_map : {x : A} {xs : List A} → Memᴰ x xs → Memᴰ (f x) (map f xs)
   mem_map (Memᴰ.head e) = Memᴰ.head (ap f e)
   mem_map (Memᴰ.tail m) = Memᴰ.tail (mem_map m)
 
@@ -98,6 +101,7 @@ module _ {A B : Type 0} (f : A → B) where
 
 module _ {A B : Type 0} (f : B → List A) where
   pub mem_concat_map : (ys : List B) {y : B} {x : A} → Memᴰ y ys → Memᴰ x (f y) → Memᴰ x (concat_map f ys)
+  mem_concat_map [] {y = y} {x = x} x4 n = elim x4 [ ]
   mem_concat_map (z ∷ ys) {y} {x} (Memᴰ.head e) n = Memᴰ.append_left (concat_map f ys) (subst (λ w. Memᴰ x (f w)) e n)
   mem_concat_map (z ∷ ys) (Memᴰ.tail m) n = Memᴰ.append_right (f z) (mem_concat_map ys m n)
 
@@ -107,6 +111,7 @@ module _ {A B : Type 0} (f : B → List A) where
 module _ {A : Type 0} (p : A → Bool) where
   -- what a filter holds: members where the test passes
   pub filter-is : (xs : List A) (x : A) → Memᴰ x (filter p xs) → Memᴰ x xs × (p x ≡ true)
+  filter-is [] x m = elim m [ ]
   filter-is (y ∷ ys) x m = go (filter-is ys x) (p y) refl m
     where
       go : (Memᴰ x (filter p ys) → Memᴰ x ys × (p x ≡ true)) → (b : Bool) → p y ≡ b → Memᴰ x (cons_if b y (filter p ys)) → Memᴰ x (y ∷ ys) × (p x ≡ true)
@@ -115,6 +120,7 @@ module _ {A : Type 0} (p : A → Bool) where
       go ih false q n = (Memᴰ.tail (ih n).0, (ih n).1)
 
   pub filter_mem : (xs : List A) (x : A) → Memᴰ x xs → p x ≡ true → Memᴰ x (filter p xs)
+  filter_mem [] x m e = elim m [ ]
   filter_mem (y ∷ ys) x m e = go (filter_mem ys x) (p y) refl m
     where
       go : (Memᴰ x ys → p x ≡ true → Memᴰ x (filter p ys)) → (b : Bool) → p y ≡ b → Memᴰ x (y ∷ ys) → Memᴰ x (cons_if b y (filter p ys))
@@ -134,6 +140,7 @@ module _ {A : Type 0} (p : A → Bool) where
 
   -- an empty filter: the test fails at each element
   pub filter_none : (xs : List A) → filter p xs ≡ [] → (x : A) → Memᴰ x xs → p x ≡ false
+  filter_none [] e x m = elim m [ ]
   filter_none (y ∷ ys) e x m = go (filter_none ys) (p y) refl e m
     where
       go : (filter p ys ≡ [] → (x : A) → Memᴰ x ys → p x ≡ false) → (b : Bool) → p y ≡ b → cons_if b y (filter p ys) ≡ [] → Memᴰ x (y ∷ ys) → p x ≡ false
@@ -147,6 +154,7 @@ module _ {A : Type 0} (p : A → Bool) where
   all_true (x ∷ xs) h = rw (h x (Memᴰ.head refl)) (all_true xs (λ y m. h y (Memᴰ.tail m)))
 
   pub all_true_inv : (xs : List A) → all p xs ≡ true → (x : A) → Memᴰ x xs → p x ≡ true
+  all_true_inv [] e x m = elim m [ ]
   all_true_inv (y ∷ ys) e x m = go (all_true_inv ys) (p y) refl e m
     where
       go : (all p ys ≡ true → (x : A) → Memᴰ x ys → p x ≡ true) → (b : Bool) → p y ≡ b → (b && all p ys) ≡ true → Memᴰ x (y ∷ ys) → p x ≡ true
@@ -155,6 +163,7 @@ module _ {A : Type 0} (p : A → Bool) where
       go ih false q r n = absurd (false≢true r)
 
   pub any_of : (xs : List A) (x : A) → Memᴰ x xs → p x ≡ true → any p xs ≡ true
+  any_of [] x x4 h = elim x4 [ ]
   any_of (y ∷ ys) x (Memᴰ.head e) h = rw (ap p (sym e) ∙ h) refl
   any_of (y ∷ ys) x (Memᴰ.tail m) h = go (p y) (any_of ys x m h)
     where
@@ -171,6 +180,7 @@ module _ {A : Type 0} (p : A → Bool) where
       go ih false q r = let (y, m, h) = ih r in (y, Memᴰ.tail m, h)
 
   pub any_none : (xs : List A) → any p xs ≡ false → (x : A) → Memᴰ x xs → p x ≡ false
+  any_none [] e x m = elim m [ ]
   any_none (y ∷ ys) e x m = go (any_none ys) (p y) refl e m
     where
       go : (any p ys ≡ false → (x : A) → Memᴰ x ys → p x ≡ false) → (b : Bool) → p y ≡ b → (b || any p ys) ≡ false → Memᴰ x (y ∷ ys) → p x ≡ false
@@ -187,6 +197,7 @@ module _ {A : Type 0} (p : A → Bool) where
       go ih false q r = (Memᴰ.tail (ih r).0, (ih r).1)
 
   pub find_none : (xs : List A) → find p xs ≡ none → (x : A) → Memᴰ x xs → p x ≡ false
+  find_none [] e x m = elim m [ ]
   find_none (y ∷ ys) e x m = go (find_none ys) (p y) refl e m
     where
       go : (find p ys ≡ none → (x : A) → Memᴰ x ys → p x ≡ false) → (b : Bool) → p y ≡ b → cond b (some y) (find p ys) ≡ none → Memᴰ x (y ∷ ys) → p x ≡ false
@@ -210,6 +221,7 @@ mem_from (suc n) a k h l = go (mem_from n (suc a) k) (eqb k a) refl
     go ih false e = let ne : ¬ (k ≡ a) = eqb-false k a e in Memᴰ.tail (ih (omega arith) (omega arith))
 
 pub from_bounds : (n a k : ℕ) → Memᴰ k (from n a) → (a ≤ k) × (k < a + n)
+from_bounds zero a k x' = elim x' [ ]
 from_bounds (suc n) a k (Memᴰ.head e) = (omega arith, omega arith)
 from_bounds (suc n) a k (Memᴰ.tail m) = let (l, h) = from_bounds n (suc a) k m in (omega arith, omega arith)
 
@@ -293,11 +305,13 @@ module _ {A : Type 0} (f g : A → ℕ) where
   sum-map_le (x ∷ xs) h = omega (arith, h x (Memᴰ.head refl), sum-map_le xs (λ y m. h y (Memᴰ.tail m)))
 
   pub sum-map_lt : (xs : List A) → ((x : A) → Memᴰ x xs → f x ≤ g x) → (y : A) → Memᴰ y xs → f y < g y → sum (map f xs) < sum (map g xs)
+  sum-map_lt [] h y x3 l = elim x3 [ ]
   sum-map_lt (x ∷ xs) h y (Memᴰ.head e) l =
       let l' : f x < g x = subst (λ z. f z < g z) e l in omega (arith, sum-map_le xs (λ z m. h z (Memᴰ.tail m)))
   sum-map_lt (x ∷ xs) h y (Memᴰ.tail m) l = omega (arith, h x (Memᴰ.head refl), sum-map_lt xs (λ z n. h z (Memᴰ.tail n)) y m l)
 
 pub sum-map-at : {A : Type 0} (f : A → ℕ) (xs : List A) (x : A) → Memᴰ x xs → f x ≤ sum (map f xs)
+sum-map-at {A = A} f [] x x3 = elim x3 [ ]
 sum-map-at f (y ∷ ys) x (Memᴰ.head e) = let q : f x ≡ f y = ap f e in omega arith
 sum-map-at f (y ∷ ys) x (Memᴰ.tail m) = omega (arith, sum-map-at f ys x m)
 

@@ -44,6 +44,7 @@ module _ {A : Type 0} (p q : A → Bool) where
 
   pub filter_lt : (xs : List A) → ((x : A) → Memᴰ x xs → p x ≡ true → q x ≡ true) → (y : A) → Memᴰ y xs → p y ≡ false → q y ≡ true
       → length (filter p xs) < length (filter q xs)
+  filter_lt [] h y x4 a b = elim x4 [ ]
   filter_lt (x ∷ xs) h y (Memᴰ.head e) a b = go (p x) (q x) (ap p (sym e) ∙ a) (ap q (sym e) ∙ b) (filter_le xs (λ z m. h z (Memᴰ.tail m)))
     where
       go : (a b : Bool) → a ≡ false → b ≡ true → length (filter p xs) ≤ length (filter q xs) → length (cons_if a x (filter p xs)) < length (cons_if b x (filter q xs))
@@ -81,6 +82,7 @@ union_right [] ys x m = m
 union_right (d ∷ xs) ys x m = union_right xs (cons_if (not (member d ys)) d ys) x (cons_if_keeps (not (member d ys)) d x ys m)
 
 pub union_left : (xs ys : List ℕ) (x : ℕ) → Memᴰ x xs → Memᴰ x (union xs ys)
+union_left [] ys x x3 = elim x3 [ ]
 union_left (d ∷ xs) ys x (Memᴰ.head e) = union_right xs (cons_if (not (member d ys)) d ys) x (go (member d ys) refl)
   where
     go : (b : Bool) → member d ys ≡ b → Memᴰ x (cons_if (not b) d ys)
@@ -108,6 +110,7 @@ union-length (d ∷ xs) ys = go (not (member d ys)) (union-length xs (cons_if (n
 
 -- a union that is no longer than the second list has nothing new
 pub union-same : (xs ys : List ℕ) → length (union xs ys) ≡ length ys → (x : ℕ) → Memᴰ x xs → Memᴰ x ys
+union-same [] ys e x m = elim m [ ]
 union-same (d ∷ xs) ys e x m = go (union-same xs ys) (member d ys) refl e m
   where
     go : (length (union xs ys) ≡ length ys → (x : ℕ) → Memᴰ x xs → Memᴰ x ys) → (b : Bool) → member d ys ≡ b → length (union xs (cons_if (not b) d ys)) ≡ length ys

@@ -21,6 +21,7 @@ module _ {A : Type 0} where
   module _ (a b c : A → ℕ) where
     pub product-split : (xs : List A) → ((x : A) → Memᴰ x xs → (a x ≤ c x) × (b x ≤ c x)) → (y : A) → Memᴰ y xs → a y + b y ≤ c y
         → product (map a xs) + product (map b xs) ≤ product (map c xs)
+    product-split [] h y x3 l = elim x3 [ ]
     product-split (x ∷ xs) h y (Memᴰ.head e) l =
         let l' : a x + b x ≤ c x = subst (λ z. a z + b z ≤ c z) e l in
         let pa : product (map a xs) ≤ product (map c xs) = product_le a c xs (λ z m. (h z (Memᴰ.tail m)).0) in

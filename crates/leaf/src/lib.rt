@@ -1,4 +1,5 @@
 // An open node as the messages are drawn from it: one value, so that a function that draws a class takes all of it at once.
+#![tactic(auto)]
 
 // The state of the node, what the closure looks at, the constants' values, the classes that get a message (0 in `marks`)
 // and their ranks.

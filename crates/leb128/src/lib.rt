@@ -1,6 +1,8 @@
 // The bytes of a number of the guard file, which are those of an unsigned LEB128 of the DWARF standard: groups of seven bits, the
 // low group first, with bit 80 in all bytes but the last. Here a number has at most five bytes, has the fewest, and is at most
 // 4,294,967,295. Only the byte count knows of longer ones, for request #104.
+#![tactic(auto)]
+
 ghost use Rattle.std.specs.Prelude.{◌≡◌, ◌<◌, ◌≤◌, ◌%◌, drop, get_or, length};
 ghost use Rattle.guard.specs.Number.{value_of_groups, well_formed, width32};
 ghost use Rattle.leb128.specs.Count.{Counted};

@@ -1,4 +1,6 @@
 // Whether a class is a part of itself: by levels, which are ranks upside down, in fewer rounds than by ranks.
+#![tactic(auto)]
+
 ghost use Rattle.std.specs.Prelude.{◌≡◌, not, ◌<◌};
 ghost use Rattle.classes.specs.Held.{Held, state};
 ghost use Rattle.arrays.specs.Slots.{ShapesFit, many_at};

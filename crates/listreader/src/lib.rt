@@ -1,6 +1,8 @@
 // Reads a guard file that is given as a list of its numbers. The list is written as plain bytes, one for each number, and the
 // reader of bytes answers for it: where a count, a name or a kind stands, a byte of 127 gets the same no as any larger or
 // negative number; where a constant's value stands, any byte is read on.
+#![tactic(auto)]
+
 ghost use Rattle.std.specs.Prelude.{◌≡◌, length};
 ghost use Rattle.guard.specs.Limits.{base};
 ghost use Rattle.guard.specs.Number.{fold_signed};

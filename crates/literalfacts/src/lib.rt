@@ -1,4 +1,6 @@
 // What the literals of a guard say, before any rule: equal terms, and labels cut down.
+#![tactic(auto)]
+
 ghost use Rattle.std.specs.Prelude.{◌≡◌, ◌≤◌, ◌<◌};
 ghost use mathlib.Core.List.{foldl};
 ghost use Rattle.guard.specs.Closure.{add};

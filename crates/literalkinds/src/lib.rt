@@ -1,4 +1,6 @@
 // Reads one literal of a guard file, by its kind: questions 2, 3 and 5 to 7 of it.
+#![tactic(auto)]
+
 ghost use Rattle.std.specs.Prelude.{◌≡◌, ◌≤◌, drop};
 ghost use Rattle.literalkinds.specs.OneLiteral.{EachBelow, LiteralSays, PairSays, literal_by, numbers_by, test_by, two_by};
 

@@ -1,4 +1,6 @@
 // Reads the literals of a guard file into their table, and asks whether the file has ended: questions 2 to 7 of them, and 10.
+#![tactic(auto)]
+
 ghost use Rattle.std.specs.Prelude.{◌≡◌, ◌≤◌};
 ghost use Rattle.literalreader.specs.LiteralReader.{EachBelow, lines_at, literals_at, no_lines, no_literals};
 

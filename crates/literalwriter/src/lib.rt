@@ -1,5 +1,7 @@
 // The lines of a guard file from the table of literals, with other numbers for their terms. `specs/LiteralBytes.antt` says what is put.
 // Every number of a line is below 128, and so one byte.
+#![tactic(auto)]
+
 ghost use Rattle.std.specs.Prelude.{◌≤◌, length};
 ghost use Rattle.literalwriter.specs.LiteralBytes.{HasLiteral, PutsLiteral, PutsLiterals, SmallNames, SomeLiterals};
 

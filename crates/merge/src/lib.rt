@@ -1,5 +1,7 @@
 // Two guard files as one, for a procedure nested in another (request #107). `specs/Merge.antt` of `merged` says what is merged and what is
 // asked, `specs/Writer.antt` of `filewriter` how a guard is written.
+#![tactic(auto)]
+
 ghost use Rattle.std.specs.Prelude.{◌≡◌, length, replicate};
 ghost use Rattle.guard.specs.Limits.{base};
 ghost use Rattle.merged.specs.Merge.{merged_file};

@@ -1,4 +1,6 @@
 // The bytes of two guards as one, from their tables (request #107). `specs/Merging.antt` says what is put.
+#![tactic(auto)]
+
 ghost use Rattle.std.specs.Prelude.{◌≡◌, ◌≤◌, length};
 ghost use Rattle.laws.specs.Lists.{from};
 ghost use Rattle.mergewriter.specs.Merging.{Merging, PutsAllLiterals, PutsAllRows, PutsMerged};

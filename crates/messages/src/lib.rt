@@ -1,5 +1,7 @@
 // Messages for the terms of an open node: rows in the one buffer, the row of each term in the other. `specs/` says what
 // is drawn, and what it shows.
+#![tactic(auto)]
+
 ghost use Rattle.std.specs.Prelude.{◌≡◌, ◌≤◌, ◌<◌, length};
 ghost use Rattle.problem.specs.Columns.{problem_by};
 ghost use Rattle.classes.specs.Held.{Held, state};

@@ -1,4 +1,6 @@
 // The classes of an open node that get a message: those of rows, and of parts of what gets one.
+#![tactic(auto)]
+
 ghost use Rattle.std.specs.Prelude.{◌≡◌, true, not, ◌||◌, ◌<◌, ◌≤◌, eqb, get_or, set};
 ghost use Rattle.classes.specs.Held.{Held, state};
 ghost use Rattle.arrays.specs.Slots.{ShapesFit, active, many_at};

@@ -1,5 +1,7 @@
 // The type that growth goes on to from each type, from the columns of the table of types. `specs/NextTypes.antt` says what
 // each entry is.
+#![tactic(auto)]
+
 ghost use Rattle.std.specs.Prelude.{◌≡◌, ◌<◌, ◌≤◌};
 ghost use Rattle.nexttypes.specs.NextTypes.{chosen_entry, fielded_at, growing_entry, infinite_at, next_entry, sort_at};
 ghost use Rattle.columns.specs.Entries.{filled};

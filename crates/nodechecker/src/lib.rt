@@ -1,4 +1,6 @@
 // A node of a record and all below it, read against the state that it begins with. `specs/Nodes.antt` says what it gives.
+#![tactic(auto)]
+
 ghost use Rattle.std.specs.Prelude.{◌≡◌};
 ghost use Rattle.classes.specs.Held.{state};
 ghost use Rattle.search.specs.Nodes.{ArraysFit, StateFit};

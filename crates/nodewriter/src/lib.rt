@@ -1,4 +1,6 @@
 // The record of a closed search, node by node. `specs/Writes.antt` says what is written.
+#![tactic(auto)]
+
 ghost use Rattle.std.specs.Prelude.{true, ◌≡◌, ◌≤◌, length};
 ghost use Rattle.classes.specs.Held.{state};
 ghost use Rattle.search.specs.Nodes.{ArraysFit, StateFit};

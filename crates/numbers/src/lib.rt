@@ -1,6 +1,8 @@
 // Numbers of the guard file, read at a cursor, and what a signed number is written as. Document 01: a number has one to five
 // bytes, each with seven bits of it, the low group first; bit 80 is set in all bytes but the last; it has
 // the fewest bytes, and is at most 4,294,967,295.
+#![tactic(auto)]
+
 ghost use Rattle.std.specs.Prelude.{◌≡◌, ◌<◌};
 ghost use Rattle.guard.specs.Number.{fold_signed};
 ghost use Rattle.numbers.specs.Reader.{refusal, number_at, below_at};

@@ -1,5 +1,7 @@
 // What the types part of a guard file is asked where a list of numbers is to be written: the questions of document 01, and 18,
 // whether at most one type is a number type. `specs/Asked.antt` says what is answered.
+#![tactic(auto)]
+
 ghost use Rattle.std.specs.Prelude.{◌≡◌, ◌≤◌};
 ghost use Rattle.guard.specs.File.{bytes};
 ghost use Rattle.guard.specs.Limits.{base};

@@ -1,4 +1,6 @@
 // A number in seven-bit groups, low group first, into a lent buffer.
+#![tactic(auto)]
+
 ghost use Rattle.std.specs.Prelude.{◌≡◌, ◌≤◌, length};
 ghost use Rattle.guard.specs.Number.{width64};
 ghost use Rattle.encoding.specs.Encoding.{encoded_of};

@@ -1,4 +1,6 @@
 // The answer at an open node: SAT with messages. `specs/Open.antt` says what it gives.
+#![tactic(auto)]
+
 ghost use Rattle.std.specs.Prelude.{◌≡◌};
 ghost use Rattle.problem.specs.Columns.{problem_by};
 ghost use Rattle.classes.specs.Held.{Held, state};

@@ -1,5 +1,7 @@
 // Growth step by step, through the column of next types: to a number type, to the lowest type of a cycle, round the cycle.
 // `specs/Orbits.antt` says what each entry is.
+#![tactic(auto)]
+
 ghost use Rattle.std.specs.Prelude.{◌≡◌, ◌<◌, ◌≤◌, min};
 ghost use Rattle.growth.proofs.Orbit.{iterate};
 ghost use Rattle.orbits.specs.Orbits.{distance_entry, met_after, number_after, on_to, period_entry, root_entry, steps_entry};

@@ -1,6 +1,8 @@
 // Packed guard files from standard input, one after the other: of each a 2-byte length, the file, and a 4-byte budget, low
 // byte first. A length above the buffer's ends them, as 65535 does after the last file. No contract can say what is read; these
 // say what is made of it, and what is left in the buffer.
+#![tactic(auto)]
+
 ghost use Rattle.std.specs.Prelude.{◌≡◌, ◌+◌, ◌*◌, ◌<◌, length};
 
 fn two_bytes(low: u8, high: u8) -> usize

@@ -1,1 +1,2 @@
 // What a pass of the saturation has to show: see `specs/Pass.antt`.
+#![tactic(auto)]

@@ -1,4 +1,6 @@
 // What is chosen for the free classes of an open node: their types, variants and fresh numbers, and the highest rank.
+#![tactic(auto)]
+
 ghost use Rattle.std.specs.Prelude.{◌≡◌, ◌<◌, ◌≤◌, ◌+◌, get_or};
 ghost use Rattle.tables.specs.Layout.{TypesInRange, types_of};
 ghost use Rattle.classes.specs.Held.{Held, state};

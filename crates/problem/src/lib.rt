@@ -1,5 +1,7 @@
 // The arrays that the search reads, from the tables of a guard. `specs/Arrays.antt` of `arrays` says what each entry is,
 // `specs/Columns.antt` how it comes from the tables.
+#![tactic(auto)]
+
 ghost use Rattle.std.specs.Prelude.{◌≡◌};
 ghost use Rattle.problem.specs.Columns.{problem_by};
 

@@ -1,4 +1,6 @@
 // Ranks of the classes of a node, by rounds: they fall from each class to its parts, or there are none.
+#![tactic(auto)]
+
 ghost use Rattle.std.specs.Prelude.{◌≡◌, ◌<◌, get_or};
 ghost use Rattle.classes.specs.Held.{Held, state};
 ghost use Rattle.arrays.specs.Slots.{ShapesFit};

@@ -1,5 +1,7 @@
 // What each row reads, and which slots hold constants, from the columns of a guard's tables. `specs/Reads.antt` says what
 // each place is.
+#![tactic(auto)]
+
 ghost use Rattle.std.specs.Prelude.{◌≡◌, ◌+◌, ◌*◌, ◌≤◌, ◌<◌};
 ghost use Rattle.readcolumn.specs.Reads.{constant_entry, four_places, read_entry, row_read};
 ghost use Rattle.columns.specs.Entries.{filled, written};

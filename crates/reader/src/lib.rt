@@ -1,4 +1,6 @@
 // Reads a guard file into tables, or says which of the questions 2 to 10 gets the first no.
+#![tactic(auto)]
+
 ghost use Rattle.std.specs.Prelude.{◌≡◌, min};
 ghost use Rattle.reader.specs.Reader.{limits_of, no_tables, tables_at};
 

@@ -1,5 +1,7 @@
 // Reads packed guard files from standard input, and prints one line for each: the question that refused it, or the sizes of
 // its tables and a sum over all their entries.
+#![tactic(auto)]
+
 use reader::Tables;
 use siblings::Siblings;
 use tables::{LiteralTable, RowTable, TypeTable};

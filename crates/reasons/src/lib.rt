@@ -1,4 +1,6 @@
 // Three of the reasons to close a node, each by the lowest term, line or class that it is found at. `specs/Reasons.antt` says what they are.
+#![tactic(auto)]
+
 ghost use Rattle.std.specs.Prelude.{◌≡◌, ◌<◌, ◌≤◌};
 ghost use Rattle.classes.specs.Held.{Held, state};
 ghost use Rattle.loops.specs.Lowest.{lowest};

@@ -1,4 +1,6 @@
 // The checker of records: reads the record of a closed search against a guard file. `specs/Checks.antt` says what it gives.
+#![tactic(auto)]
+
 ghost use Rattle.std.specs.Prelude.{◌≡◌};
 ghost use Rattle.guard.specs.Limits.{base};
 ghost use Rattle.problem.specs.Columns.{problem_by};

@@ -1,4 +1,6 @@
 // The record of a closed search in a lent buffer, whole or not at all. `specs/Records.antt` says what is written.
+#![tactic(auto)]
+
 ghost use Rattle.std.specs.Prelude.{◌≡◌, length};
 ghost use Rattle.problem.specs.Columns.{problem_by};
 ghost use Rattle.roots.specs.Roots.{GuardsTables};

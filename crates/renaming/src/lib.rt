@@ -1,4 +1,6 @@
 // What the rows of the second of two guards are called in the merged one. Its variables are taken in order as the first's, as long as both last.
+#![tactic(auto)]
+
 ghost use Rattle.std.specs.Prelude.{◌≡◌, ◌&&◌, ◌≤◌, eqb, ltb};
 ghost use Rattle.renaming.specs.Names.{NamesOf, NextVariable, TwoRows};
 

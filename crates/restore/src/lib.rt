@@ -1,5 +1,7 @@
 // A guard file back from its term rows by column (request #111). `specs/Columns.antt` of `columnfile` says what is asked and restored,
 // `specs/Writer.antt` of `filewriter` what a call that writes answers.
+#![tactic(auto)]
+
 ghost use Rattle.std.specs.Prelude.{◌≡◌, ◌≤◌, drop, length, replicate};
 ghost use Rattle.guard.specs.Limits.{base};
 ghost use Rattle.filewriter.specs.Writer.{answer_to, left_by};

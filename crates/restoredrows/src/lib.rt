@@ -1,5 +1,7 @@
 // Term rows from the cells of a stored guard file into a lent buffer, in row order (request #111), and bytes as they stand.
 // `specs/Columns.antt` of `columnfile` says what a restored row is.
+#![tactic(auto)]
+
 ghost use Rattle.std.specs.Prelude.{◌<◌, ◌≤◌, length};
 ghost use Rattle.tables.specs.Layout.{TypesInRange, types_of};
 ghost use Rattle.bytebuffer.specs.Puts.{Puts};

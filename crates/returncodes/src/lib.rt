@@ -1,4 +1,6 @@
 // One number for C from a question and a count. `specs/Code.antt` says what it is.
+#![tactic(auto)]
+
 ghost use Rattle.std.specs.Prelude.{◌≡◌, ◌≤◌};
 ghost use Rattle.returncodes.specs.Code.{code_of};
 

@@ -1,4 +1,6 @@
 // The search of a guard from its root: the arrays, the state that it begins with, and what is left of it. `search` says what it gives.
+#![tactic(auto)]
+
 ghost use Rattle.std.specs.Prelude.{◌≡◌};
 ghost use Rattle.problem.specs.Columns.{problem_by};
 ghost use Rattle.classes.specs.Held.{Held};

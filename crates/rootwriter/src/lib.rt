@@ -1,4 +1,6 @@
 // The record of a guard from its root on: an entry for each node, in the order of the search.
+#![tactic(auto)]
+
 ghost use Rattle.std.specs.Prelude.{◌≡◌};
 ghost use Rattle.problem.specs.Columns.{problem_by};
 ghost use Rattle.roots.specs.Roots.{GuardsTables};

@@ -1,5 +1,7 @@
 // One row of a guard file, by its kind. Document 01: a variable's type; a constant's type and value; a built row's type,
 // variant and parts; or the term, variant and position of a field read.
+#![tactic(auto)]
+
 ghost use Rattle.std.specs.Prelude.{◌≡◌, take};
 ghost use Rattle.tables.specs.Layout.{TypesInRange, types_of};
 ghost use Rattle.rowparts.specs.ByTypes.{variable_row, constant_row, built_row, field_row};

@@ -1,5 +1,7 @@
 // A built row or a field read of a guard file, from its variant on. Document 01: a built row's variant and parts; the variant
 // and the position of a field read. A row names only rows before it.
+#![tactic(auto)]
+
 ghost use Rattle.std.specs.Prelude.{◌≡◌, ◌<◌, ◌≤◌, length, take};
 ghost use Rattle.guard.specs.Types.{variants_of};
 ghost use Rattle.tables.specs.Layout.{TypesInRange, types_of};

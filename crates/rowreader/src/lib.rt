@@ -1,5 +1,7 @@
 // The term rows of a guard file, read into their table. Document 01: a row has a kind, and then what its kind asks for. A row
 // names only rows before it.
+#![tactic(auto)]
+
 ghost use Rattle.std.specs.Prelude.{◌≡◌, ◌<◌, ◌≤◌, length};
 ghost use Rattle.tables.specs.Layout.{TypesInRange, types_of};
 ghost use Rattle.rowreader.specs.RowReader.{stored, no_rows, rows_from, rows_at};

@@ -1,5 +1,7 @@
 // The shape of each row, eight places at once, from the columns of a guard's tables. `specs/RowShapes.antt` says what each
 // place is.
+#![tactic(auto)]
+
 ghost use Rattle.std.specs.Prelude.{◌≡◌, ◌+◌, ◌*◌, ◌≤◌, ◌<◌, get_or};
 ghost use Rattle.columns.specs.Entries.{written};
 ghost use Rattle.rowshapes.specs.RowShapes.{arity_of, eight_places, others_of, owner_of, part_place, row_part, row_place};

@@ -1,5 +1,7 @@
 // Rows of messages in a lent buffer, four signed numbers each. A message has one row: it is found, or appended.
 // `specs/` says what each function computes.
+#![tactic(auto)]
+
 ghost use Rattle.std.specs.Prelude.{◌≡◌, [], ◌∷◌, ◌+◌, ◌*◌, ◌≤◌, length, take, drop};
 ghost use Rattle.rowstore.specs.Store.{appended, row_found, same_numbers, with_row};
 

@@ -1,4 +1,6 @@
 // Writes rows that name terms, from tables into a lent buffer, with these terms renumbered. `specs/Rows.antt` says what bytes a row has.
+#![tactic(auto)]
+
 ghost use Rattle.std.specs.Prelude.{◌<◌, ◌≤◌, length};
 ghost use Rattle.guard.specs.Guard.{Row};
 ghost use Rattle.encoding.specs.Encoding.{encoded};

@@ -1,4 +1,6 @@
 // Rows of messages as text. `specs/Rows.antt` says what the text is.
+#![tactic(auto)]
+
 ghost use Rattle.std.specs.Prelude.{◌≡◌, ◌+◌, ◌*◌, ◌<◌, ◌≤◌, length};
 ghost use Rattle.laws.specs.Lists.{concat_map, from};
 ghost use Rattle.writing.specs.Written.{Written};

@@ -1,4 +1,6 @@
 // Writes term rows of a guard file from tables into a lent buffer, with the terms that they name renumbered.
+#![tactic(auto)]
+
 ghost use Rattle.std.specs.Prelude.{[], ◌<◌, ◌≤◌, length};
 ghost use Rattle.guard.specs.Guard.{Row};
 ghost use Rattle.bytebuffer.specs.Puts.{Puts};

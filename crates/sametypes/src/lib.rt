@@ -1,4 +1,6 @@
 // Whether two guards have the same type parts, by their tables.
+#![tactic(auto)]
+
 ghost use Rattle.std.specs.Prelude.{◌≡◌};
 ghost use Rattle.merged.specs.Merge.{same_bytes};
 ghost use Rattle.sametypes.specs.Same.{SameTypes};

@@ -1,4 +1,6 @@
 // The closure of a node: the passes of all families of rules, until nothing is new or a label is empty.
+#![tactic(auto)]
+
 ghost use Rattle.classes.specs.Held.{Held, state};
 ghost use Rattle.passes.specs.Pass.{Saturated};
 ghost use Rattle.arrays.specs.Slots.{ReadsFit, ShapesFit, SortsFit};

@@ -1,4 +1,6 @@
 // The search over decisions, depth first, with a budget of nodes. `specs/` says what it gives.
+#![tactic(auto)]
+
 ghost use Rattle.std.specs.Prelude.{◌≤◌};
 ghost use Rattle.classes.specs.Held.{Held, state};
 ghost use Rattle.tallies.specs.Outcome.{tally_of, total};

@@ -1,4 +1,6 @@
 // The answer to the tables of a guard: the search, and what it leaves in the buffers. `specs/Searched.antt` says what it gives.
+#![tactic(auto)]
+
 ghost use Rattle.messages.specs.Messages.{RoomFor};
 ghost use Rattle.roots.specs.Roots.{GuardsTables};
 ghost use Rattle.searchanswer.specs.Searched.{AnswersTables};

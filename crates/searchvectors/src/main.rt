@@ -1,5 +1,7 @@
 // Reads packed guard files from standard input, and prints the answer to each in a line: REFUSED with the question, or the
 // verdict with the node count and the splits of either kind.
+#![tactic(auto)]
+
 use reader::Tables;
 use tallies::{Outcome, Tally};
 

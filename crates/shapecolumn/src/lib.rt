@@ -1,5 +1,7 @@
 // The shapes of all rows and defaults, one after the other, from the columns of a guard's tables. `specs/Shapes.antt` says
 // what each place is.
+#![tactic(auto)]
+
 ghost use Rattle.std.specs.Prelude.{◌≡◌, ◌+◌, ◌*◌, ◌<◌};
 ghost use Rattle.shapecolumn.specs.Shapes.{default_part, made_place, shape_entry};
 ghost use Rattle.columns.specs.Entries.{filled, written};

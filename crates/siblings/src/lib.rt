@@ -1,5 +1,7 @@
 // Sibling fields: for each field read of a guard, the terms of its variant's fields and the types of those that no row
 // has. `specs/Siblings.antt` says what each entry is.
+#![tactic(auto)]
+
 ghost use Rattle.std.specs.Prelude.{◌≡◌, ◌<◌, ◌*◌};
 ghost use Rattle.tables.specs.Layout.{TypesInRange};
 ghost use Rattle.siblings.specs.Siblings.{ReadsInRange, SortsInRange, field_entries, field_entry, siblings_by, sort_entries, sort_entry};

@@ -1,4 +1,6 @@
 // Terms of one fieldless variant alone are equal: one pass with a table of the first term met of each.
+#![tactic(auto)]
+
 ghost use Rattle.std.specs.Prelude.{◌≡◌, false, ◌&&◌, ◌+◌, ◌<◌};
 ghost use Rattle.classes.specs.Held.{Held, state};
 ghost use Rattle.arrays.specs.Slots.{SortsFit};

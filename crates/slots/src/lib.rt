@@ -1,4 +1,6 @@
 // Readers of the arrays that the search reads: what stands in each slot, and what a state says of it.
+#![tactic(auto)]
+
 ghost use Rattle.std.specs.Prelude.{◌≡◌, ◌<◌};
 ghost use Rattle.guard.specs.Closure.{label_of, same_class};
 ghost use Rattle.classes.specs.Held.{Held, state};

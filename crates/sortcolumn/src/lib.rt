@@ -1,5 +1,7 @@
 // The type of each term, and the variants of each type as masks, from the columns of a guard's tables. `specs/Sorts.antt`
 // says what each place is.
+#![tactic(auto)]
+
 ghost use Rattle.std.specs.Prelude.{◌≡◌, ◌≤◌, ◌<◌};
 ghost use Rattle.sortcolumn.specs.Sorts.{fieldless_bit, fieldless_entry, fieldless_mask, full_entry, sort_entry};
 ghost use Rattle.columns.specs.Entries.{filled};

@@ -1,2 +1,3 @@
 // Soundness of the search: a closed node has no model, and every split keeps a model in one child.
 // This crate has no code: proofs/ holds the mathematics.
+#![tactic(auto)]

@@ -1,4 +1,6 @@
 // Whether a node can be split as an entry of a record says. The numbers of an entry come from a record, and may be any.
+#![tactic(auto)]
+
 ghost use Rattle.std.specs.Prelude.{◌≡◌};
 ghost use Rattle.classes.specs.Held.{Held, state};
 ghost use Rattle.splitclaims.specs.SplitClaims.{is_term, splits_by};

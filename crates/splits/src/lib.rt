@@ -1,4 +1,6 @@
 // The split of a node. `specs/Choice.antt` says what it is.
+#![tactic(auto)]
+
 ghost use Rattle.std.specs.Prelude.{◌≡◌, ◌<◌};
 ghost use Rattle.std.proofs.Math.Option.{some};
 ghost use Rattle.classes.specs.Held.{Held, state};

@@ -1,5 +1,7 @@
 // A guard file with its term rows by column, for slow memory (request #111). `specs/Columns.antt` of `columnfile` says what is stored,
 // `specs/Writer.antt` of `filewriter` what a call that writes answers.
+#![tactic(auto)]
+
 ghost use Rattle.std.specs.Prelude.{◌≡◌, length};
 ghost use Rattle.guard.specs.File.{file};
 ghost use Rattle.guard.specs.Limits.{base};

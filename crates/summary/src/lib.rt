@@ -1,5 +1,7 @@
 // The summary kept with each guard (request #114): made anew from a guard file, and brought up to date when a line is added. `summaries` says
 // what it holds (`specs/Summary.antt`), what is asked and what is left in the buffer (`specs/AddedLine.antt`).
+#![tactic(auto)]
+
 ghost use Rattle.std.specs.Prelude.{◌≡◌, length};
 ghost use Rattle.summaries.specs.AddedLine.{asks_file, asks_line, brought, made_anew, question_in};
 

@@ -1,5 +1,6 @@
 // The tables that a guard file is read into: flat columns of numbers, each padded with zeros to the largest size that any
 // limits allow. `specs/Layout.antt` says what each entry is.
+#![tactic(auto)]
 
 // The types. Variants of all types are counted through, type by type.
 #[derive(Drop)]

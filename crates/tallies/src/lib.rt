@@ -1,4 +1,6 @@
 // What a search has left of its budget and what it has counted, visit by visit, and how it ends. `specs/Outcome.antt` says what each is.
+#![tactic(auto)]
+
 ghost use Rattle.std.specs.Prelude.{◌≡◌, ◌<◌, ◌≤◌};
 ghost use Rattle.guard.specs.Search.{Visit.leaf, Visit.split};
 ghost use Rattle.tallies.specs.Outcome.{after_one, is_closed_outcome, kind_by, tally_of, total};

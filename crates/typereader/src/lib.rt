@@ -1,4 +1,6 @@
 // Reads the types part of a guard file into the table of types: questions 2 to 5 of it.
+#![tactic(auto)]
+
 ghost use Rattle.std.specs.Prelude.{◌≡◌, suc, ◌+◌, ◌-◌, ◌<◌, ◌≤◌, min, drop};
 ghost use Rattle.variantreader.specs.VariantReader.{Stores};
 ghost use Rattle.typereader.specs.TypeReader.{one_type, no_type, one_type_at, no_types, types_at};

@@ -1,5 +1,7 @@
 // The type part of a guard file, from the table of types. `specs/TypeBytes.antt` says what is put. Every number of it is below 128, and so
 // one byte.
+#![tactic(auto)]
+
 ghost use Rattle.std.specs.Prelude.{◌≤◌, length};
 ghost use Rattle.typewriter.specs.TypeBytes.{HasType, HasVariant, PutsType, PutsTypes, PutsVariant, SomeTypes};
 

@@ -1,4 +1,6 @@
 // Whether a class of a node holds two constants of different value.
+#![tactic(auto)]
+
 ghost use Rattle.std.specs.Prelude.{◌≡◌, ◌<◌};
 ghost use Rattle.loops.specs.Lowest.{lowest};
 ghost use Rattle.unlikeconstants.specs.Unlike.{constant_of, other_constant, unlike_in};

@@ -1,4 +1,6 @@
 // Where in the list of a guard's numbers the values of its constants stand.
+#![tactic(auto)]
+
 ghost use Rattle.std.specs.Prelude.{◌≡◌, ◌<◌};
 ghost use Rattle.valuemarks.specs.Marks.{GuardsRows, MarksValues, RowNumbers, Unmarked};
 

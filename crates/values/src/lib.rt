@@ -1,5 +1,7 @@
 // The value of a constant. Document 02, #104: it runs over 64 bits, and is written as a number is, with up to ten bytes and at most
 // 18,446,744,073,709,551,615 as written.
+#![tactic(auto)]
+
 ghost use Rattle.std.specs.Prelude.{◌≡◌, ◌<◌, ◌≤◌, leb, length};
 ghost use Rattle.guard.specs.Number.{fold_signed, unfold_signed, value_of_groups, well_formed, width64};
 ghost use Rattle.values.specs.Values.{refusal, value_at};

@@ -1,5 +1,7 @@
 // The masks of a guard's summary (request #114), from its tables: a number for each variant of each row, and two bits by it.
 // `specs/Masks.antt` says what each is.
+#![tactic(auto)]
+
 ghost use Rattle.std.specs.Prelude.{◌≡◌, cond, [], ◌∷◌, ◌<◌, ◌≤◌, ◌^◌, length};
 ghost use Rattle.guard.specs.Guard.{Literal.is};
 ghost use Rattle.tables.specs.Layout.{literal_table};

@@ -1,4 +1,6 @@
 // Reads the variants of a type into two columns, behind those that are there: questions 2 to 5 of them.
+#![tactic(auto)]
+
 ghost use Rattle.std.specs.Prelude.{◌≡◌, ◌+◌, ◌*◌, ◌<◌, ◌≤◌, length, drop, set};
 ghost use Rattle.guard.specs.Number.{times};
 ghost use Rattle.guard.specs.File.{variant};

@@ -1,5 +1,7 @@
 // The desk's verdict on a guard with lines behind its own, from tables: the guard's bytes go to the desk's call under a line limit of 64, and
 // nothing is relied on but its contract. `specs/VerdictOn.antt` says what each number is.
+#![tactic(auto)]
+
 ghost use Rattle.std.specs.Prelude.{◌≡◌};
 ghost use Rattle.guard.specs.Answer.{outcome, outcome_of};
 ghost use Rattle.verdictcodes.specs.Codes.{code_of};

@@ -1,4 +1,6 @@
 // A value of 64 bits and the two numbers of 32 bits that its row holds (document 02, #104).
+#![tactic(auto)]
+
 ghost use Rattle.std.specs.Prelude.{◌≡◌, ◌<◌};
 ghost use Rattle.guard.specs.Words.{high_of, low_of, signed_word, unsigned_word, value_of, word};
 

@@ -1,5 +1,7 @@
 // Words and numbers as text, one behind the other in a lent buffer. A function takes the place to write at, and answers the
 // place after what it wrote.
+#![tactic(auto)]
+
 ghost use Rattle.std.specs.Prelude.{◌≡◌, ◌++◌, ◌+◌, ◌≤◌, pos, length, get_or};
 ghost use Rattle.writing.specs.Words.{decimal, number_text, signed};
 ghost use Rattle.writing.specs.Written.{Written};
