@@ -49,6 +49,7 @@ pub data Either {B : Type 0} (P : Fact → Type 0) (f : B → B → List Fact) (
   identical : x ≡ y → Either P f x y
 
 pub pairwise_inv : {B : Type 0} (P : Fact → Type 0) (f : B → B → List Fact) (ys : List B) → All P (pairwise f ys) → (x y : B) → Memᴰ x ys → Memᴰ y ys → Either P f x y
+pairwise_inv {B = B} P f [] h x y x5 _ = elim x5 [ ]
 pairwise_inv P f (z ∷ ys) h x y (Memᴰ.head e) (Memᴰ.head e') = identical (e ∙ sym e')
 pairwise_inv P f (z ∷ ys) h x y (Memᴰ.head e) (Memᴰ.tail m) = before (subst (λ w. All P (f w y)) (sym e) (concat_map_inv (f z) ys (all_left (concat_map (f z) ys) (pairwise f ys) h) y m))
 pairwise_inv P f (z ∷ ys) h x y (Memᴰ.tail m) (Memᴰ.head e) = after (subst (λ w. All P (f w x)) (sym e) (concat_map_inv (f z) ys (all_left (concat_map (f z) ys) (pairwise f ys) h) x m))

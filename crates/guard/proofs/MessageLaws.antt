@@ -32,6 +32,7 @@ size-part (m ∷ ms) zero d h = omega arith
 size-part (m ∷ ms) (suc p) d h = omega (arith, size-part ms p d (omega arith))
 
 pub size_mem : (ms : List Message) (m : Message) → Memᴰ m ms → message_size m < suc (part_sizes (to_parts ms))
+size_mem [] m x' = elim x' [ ]
 size_mem (n ∷ ms) m (Memᴰ.head e) = let q : message_size m ≡ message_size n = ap message_size e in omega arith
 size_mem (n ∷ ms) m (Memᴰ.tail k) = omega (arith, size_mem ms m k)
 

@@ -34,6 +34,7 @@ module _ {A : Type 0} (f : ℕ → Row → List A) where
       Memᴰ.append_right (f n r) (mem_from_rows (suc n) i rs x (omega arith) (subst (λ (k : ℕ). Memᴰ x (f k (row_at rs i))) e m))
 
   pub from_rows_inv : (P : A → Type 0) (n : ℕ) (rs : List Row) → ((i : ℕ) → i < length rs → (x : A) → Memᴰ x (f (n + i) (row_at rs i)) → P x) → (x : A) → Memᴰ x (from_rows f n rs) → P x
+  from_rows_inv P n [] h x m = elim m [ ]
   from_rows_inv P n (r ∷ rs) h x m =
       go (from_rows_inv P (suc n) rs (λ i hi y k. let e : suc n + i ≡ n + suc i = omega arith in h (suc i) (omega arith) y (subst (λ (j : ℕ). Memᴰ y (f j (row_at rs i))) e k)) x)
       (Memᴰ.append_cases (f n r) m)
@@ -123,6 +124,10 @@ module _ (g : Guard) where
   read_inv P h = rows_inv (read_of g.types) P g.rows go
     where
       go : (i : ℕ) → i < length g.rows → (w : Row) → row_at g.rows i ≡ w → (x : Read) → Memᴰ x (read_of g.types i w) → P x
+      go i hi (Rattle.guard.specs.Guard.variable _) e x x5 = elim x5 [ ]
+      go i hi (constant _ _) e x x7 = elim x7 [ ]
+      go i hi (built _ _ _) e x x9 = elim x9 [ ]
+      go i hi (field t a v p) e x (Memᴰ.tail x11) = elim x11 [ ]
       go i hi (field t a v p) e x (Memᴰ.head q) = subst P (sym q) (h i t a v p hi e)
 
   pub build_inv : (P : Build → Type 0) → ((i t v : ℕ) (ps : List ℕ) → i < length g.rows → row_at g.rows i ≡ built t v ps → P (record { term = i; type = t; variant = v; parts = ps }))
@@ -132,9 +137,16 @@ module _ (g : Guard) where
   build_inv P h k b m = go (Memᴰ.append_cases (from_rows build_of 0 g.rows) m)
     where
       row-case : (i : ℕ) → i < length g.rows → (w : Row) → row_at g.rows i ≡ w → (x : Build) → Memᴰ x (build_of i w) → P x
+      row-case i hi (Rattle.guard.specs.Guard.variable _) e x x5 = elim x5 [ ]
+      row-case i hi (constant _ _) e x x7 = elim x7 [ ]
+      row-case i hi (built t v ps) e x (Memᴰ.tail x10) = elim x10 [ ]
+      row-case i hi (field _ _ _ _) e x x11 = elim x11 [ ]
       row-case i hi (built t v ps) e x (Memᴰ.head q) = subst P (sym q) (h i t v ps hi e)
 
       default-case : (t : ℕ) → t < length g.types → (o : Option Message) → get_or (defaults g.types) t none ≡ o → (x : Build) → Memᴰ x (default_build g.types t o) → P x
+      default-case t ht mathlib.Core.Option.none e x x4 = elim x4 [ ]
+      default-case t ht (some (number _ _)) e x x11 = elim x11 [ ]
+      default-case t ht (some (made u v ms)) e x (Memᴰ.tail x14) = elim x14 [ ]
       default-case t ht (some (made u v ms)) e x (Memᴰ.head q) = subst P (sym q) (k t u v ms ht e)
 
       go : Memᴰ b (from_rows build_of 0 g.rows) ⊎ Memᴰ b (concat_map (λ t. default_build g.types t (get_or (defaults g.types) t none)) (from (length g.types) 0)) → P b
@@ -150,9 +162,16 @@ module _ (g : Guard) where
   const_inv P h k c m = go (Memᴰ.append_cases (from_rows const_of 0 g.rows) m)
     where
       row-case : (i : ℕ) → i < length g.rows → (w : Row) → row_at g.rows i ≡ w → (x : Const) → Memᴰ x (const_of i w) → P x
+      row-case i hi (Rattle.guard.specs.Guard.variable _) e x x5 = elim x5 [ ]
+      row-case i hi (constant t z) e x (Memᴰ.tail x9) = elim x9 [ ]
+      row-case i hi (built _ _ _) e x x9 = elim x9 [ ]
+      row-case i hi (field _ _ _ _) e x x11 = elim x11 [ ]
       row-case i hi (constant t z) e x (Memᴰ.head q) = subst P (sym q) (h i t z hi e)
 
       default-case : (t : ℕ) → t < length g.types → (o : Option Message) → get_or (defaults g.types) t none ≡ o → (x : Const) → Memᴰ x (default_const g.types t o) → P x
+      default-case t ht mathlib.Core.Option.none e x x4 = elim x4 [ ]
+      default-case t ht (some (number u z)) e x (Memᴰ.tail x13) = elim x13 [ ]
+      default-case t ht (some (made _ _ _)) e x x13 = elim x13 [ ]
       default-case t ht (some (number u z)) e x (Memᴰ.head q) = subst P (sym q) (k t u z ht e)
 
       go : Memᴰ c (from_rows const_of 0 g.rows) ⊎ Memᴰ c (concat_map (λ t. default_const g.types t (get_or (defaults g.types) t none)) (from (length g.types) 0)) → P c
@@ -175,6 +194,7 @@ module _ (g : Guard) where
       siblings = concat_map (siblings_of g.types) (from_rows (read_of g.types) 0 g.rows)
 
       row-case : (i : ℕ) → i < length g.rows → (w : Row) → row_at g.rows i ≡ w → (x : Term) → Memᴰ x (row_term g.types i w) → P x
+      row-case i hi w e x (Memᴰ.tail x6) = elim x6 [ ]
       row-case i hi w e x (Memᴰ.head q) = subst P (ap (λ (w : Row). record { term = i; type = type_of g.types w }) e ∙ sym q) (h i hi)
 
       go2 : Memᴰ x (from_rows (row_term g.types) 0 g.rows) ⊎ Memᴰ x siblings → P x
@@ -196,6 +216,7 @@ module _ (g : Guard) where
 
 -- the fieldless variants, by position
 pub fieldless-is : (n v : ℕ) (vs : List Variant) → Memᴰ v (fieldless n vs) → (k : ℕ) × (v ≡ n + k) × (k < length vs) × (get_or vs k [] ≡ [])
+fieldless-is n v [] m = elim m [ ]
 fieldless-is n v ([] ∷ vs) (Memᴰ.head e) = (0, omega arith, omega arith, refl)
 fieldless-is n v ([] ∷ vs) (Memᴰ.tail m) = let (k, e, h, q) = fieldless-is (suc n) v vs m in (suc k, omega arith, omega arith, q)
 fieldless-is n v ((f ∷ fs) ∷ vs) m = let (k, e, h, q) = fieldless-is (suc n) v vs m in (suc k, omega arith, omega arith, q)
@@ -220,6 +241,8 @@ field-terms-small r p (f ∷ fs) q s h l = go (field-terms-small r p fs (suc q))
     go ih false = let b : s < term_count = omega arith in more b (ih (suc s) h (omega arith))
 
 pair_small : (ps fs : List ℕ) → All (λ p. p < term_count) ps → (x : Term) → Memᴰ x (pair_terms ps fs) → x.term < term_count
+pair_small [] fs _ x x5 = elim x5 [ ]
+pair_small (p ∷ ps) [] _ x x9 = elim x9 [ ]
 pair_small (p ∷ ps) (f ∷ fs) (more h hs) x (Memᴰ.head e) = subst (λ (y : Term). y.term < term_count) (sym e) h
 pair_small (p ∷ ps) (f ∷ fs) (more h hs) x (Memᴰ.tail m) = pair_small ps fs hs x m
 
