@@ -158,6 +158,7 @@ module _ (ts : Types) (type variant_for : ℕ → ℕ) (classes : List ℕ) (mos
       defaults-parts fs a = map_inv (default_of ts) (λ p. Memᴰ p rows) fs (λ f m. defaults_in f (all_mem a f m))
 
       fill_parts : (fs : List ℕ) (k : ℕ) (m : Message) → All (λ f. f < length ts) fs → Memᴰ m rows → (p : Message) → Memᴰ p (fill (default_of ts) fs k m) → Memᴰ p rows
+      fill_parts [] k m _ h p x4 = elim x4 [ ]
       fill_parts (f ∷ fs) zero m (more a bs) h p (Memᴰ.head e) = subst (λ (x : Message). Memᴰ x rows) (sym e) h
       fill_parts (f ∷ fs) zero m (more a bs) h p (Memᴰ.tail q) = defaults-parts fs bs p q
       fill_parts (f ∷ fs) (suc k) m (more a bs) h p (Memᴰ.head e) = subst (λ (x : Message). Memᴰ x rows) (sym e) (defaults_in f a)
@@ -173,6 +174,7 @@ module _ (ts : Types) (type variant_for : ℕ → ℕ) (classes : List ℕ) (mos
       chain_first (suc k) t e h x = h (grow_from ts (suc k) t e) (Memᴰ.head refl)
 
       chain_parts : (k t : ℕ) (e : Message) → ((m : Message) → Memᴰ m (chain k t e) → Memᴰ m rows) → Memᴰ e rows → (m : Message) → Memᴰ m (chain k t e) → PartsIn rows m
+      chain_parts zero t e h x m x4 = elim x4 [ ]
       chain_parts (suc k) t e h x m (Memᴰ.head q) =
           subst (PartsIn rows) (sym q) (wrap_parts t (growing_variant ts t) (grow_from ts k (next_type ts t) e) (chain_first k (next_type ts t) e (λ y j. h y (Memᴰ.tail j)) x))
       chain_parts (suc k) t e h x m (Memᴰ.tail q) = chain_parts k (next_type ts t) e (λ y j. h y (Memᴰ.tail j)) x m q
@@ -237,6 +239,7 @@ module _ (ts : Types) (type variant_for : ℕ → ℕ) (classes : List ℕ) (mos
               last_in = f last (Memᴰ.append_right (chain (steps_to_number ts (start c)) (start c) last) (Memᴰ.head refl))
 
               both : (m : Message) → Memᴰ m (chain (steps_to_number ts (start c)) (start c) last) ⊎ Memᴰ m (last ∷ []) → PartsIn rows m
+              both m (inr (Memᴰ.tail x5)) = elim x5 [ ]
               both m (inl q) = chain_parts (steps_to_number ts (start c)) (start c) last above last_in m q
               both m (inr (Memᴰ.head q)) = subst (PartsIn rows) (sym q) (number-parts rows (iterate (next_type ts) (steps_to_number ts (start c)) (start c)) (end_for c))
 

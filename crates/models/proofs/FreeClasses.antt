@@ -88,6 +88,7 @@ module _ (t : Table) (ls : List Literal) (type : ℕ → ℕ) (n : TypedNode t l
     not_few e q (v ∷ []) r h f = go (reason t ls type n o (cls x.term))
       where
         one : (u : ℕ) → Memᴰ u (v ∷ []) → u ≡ v
+        one u (Memᴰ.tail x9) = elim x9 [ ]
         one u (Memᴰ.head d) = d
 
         go : Reason t ls type n o (cls x.term) (kind (cls x.term)) → ⊥

@@ -99,6 +99,7 @@ module _ (s : State) (bs : List Build) (small : (b : Build) → Memᴰ b bs → 
   within c xs k m = reached_least term_count (c ∷ []) xs k first
     where
       first : (x : ℕ) → Memᴰ x (c ∷ []) → Memᴰ x xs
+      first x (mathlib.Core.List.Memᴰ.tail x5) = elim x5 [ ]
       first x (Memᴰ.head q) = subst (λ (z : ℕ). Memᴰ z xs) (sym q) m
 
   pub rank-part : (b : Build) → Memᴰ b bs → member (class_of s b.term) (reached term_count s bs (union (parts_of s bs (class_of s b.term)) [])) ≡ false

@@ -143,6 +143,8 @@ pair_typed type (p ∷ ps) (f ∷ fs) e =
     ap (λ (x : ℕ). record { term = p; type = x } ∷ pair_terms ps fs) (sym a) ∙ ap (λ (l : List Term). record { term = p; type = type p } ∷ l) (pair_typed type ps fs b)
 
 pair_types : (P : ℕ → Type 0) (ps fs : List ℕ) → All P fs → (x : Term) → Memᴰ x (pair_terms ps fs) → P x.type
+pair_types P [] fs _ x x5 = elim x5 [ ]
+pair_types P (p ∷ ps) [] _ x x9 = elim x9 [ ]
 pair_types P (p ∷ ps) (f ∷ fs) (more h hs) x (Memᴰ.head e) = subst (λ (y : Term). P y.type) (sym e) h
 pair_types P (p ∷ ps) (f ∷ fs) (more h hs) x (Memᴰ.tail m) = pair_types P ps fs hs x m
 

@@ -53,6 +53,7 @@ pub root-holds : (limits : Limits) → Supported limits → (g : Guard) → Well
 root-holds limits sup g ok ρ h l m = literal l (ok.literals l m) (each g.literals h.literals l m)
   where
     each : (ls : List Literal) → AllHold (values g ρ) ls → (l : Literal) → Memᴰ l ls → LiteralHolds (values g ρ) l
+    each [] h l x'' = elim x'' [ ]
     each (k ∷ ls) h l (Memᴰ.head e) = subst (LiteralHolds (values g ρ)) (sym e) h.0
     each (k ∷ ls) h l (Memᴰ.tail m) = each ls h.1 l m
 

@@ -240,6 +240,8 @@ module _ (limits : Limits) (sup : Supported limits) (g : Guard) (ok : WellFormed
         subst (Belongs ts (val a)) f.1 (row-belongs a (omega (arith, f.0)))
 
     pair-belongs : (ps fs : List ℕ) → BelongAll ts (to_parts (map val ps)) fs → (x : Term) → Memᴰ x (pair_terms ps fs) → Belongs ts (val x.term) x.type
+    pair-belongs [] fs b x x4 = elim x4 [ ]
+    pair-belongs (p ∷ ps) [] b x _ = elim b [ ]
     pair-belongs (p ∷ ps) (f ∷ fs) b x (Memᴰ.head e) = subst (λ (y : Term). Belongs ts (val y.term) y.type) (sym e) b.0
     pair-belongs (p ∷ ps) (f ∷ fs) b x (Memᴰ.tail m) = pair-belongs ps fs b.1 x m
 

@@ -83,6 +83,7 @@ flat-all P ts h = all-concat_map (λ vs. vs) ts (λ vs m. all_of vs (λ fs k. pi
         subst P (ap (λ (l : List Variant). get_or l v []) et ∙ ev) (h t v)
       where
         mem_at : {A : Type 0} (xs : List A) (x d : A) → Memᴰ x xs → (i : ℕ) × (get_or xs i d ≡ x)
+        mem_at {A = A} [] x d x3 = elim x3 [ ]
         mem_at (y ∷ ys) x d (Memᴰ.head e) = (0, sym e)
         mem_at (y ∷ ys) x d (Memᴰ.tail m) = let (i, e) = mem_at ys x d m in (suc i, e)
 

@@ -72,6 +72,7 @@ left_pos ds [] i u h e = omega arith
 left_pos ds (v ∷ vs) i u h e = go (filter (leaves ds i) (from (suc (length vs)) 0)) (filter_mem (leaves ds i) (from (suc (length vs)) 0) u (mem_from (suc (length vs)) 0 u (omega arith) (omega arith)) e)
   where
     go : (xs : List ℕ) → Memᴰ u xs → 1 ≤ length xs
+    go [] m = elim m [ ]
     go (x ∷ xs) m = omega arith
 
 left_inv : (ds : List Literal) (v : Variant) (vs : List Variant) (i : ℕ) → 1 ≤ left ds (v ∷ vs) i → (u : ℕ) × (u < length (v ∷ vs)) × (leaves ds i u ≡ true)

@@ -71,6 +71,10 @@ module _ (limits : Limits) (sup : Supported limits) (g : Guard) (ok : WellFormed
   choice_term x m = go (Memᴰ.append_cases (from_rows (own_choice g.types) 0 g.rows) m)
     where
       row : (i : ℕ) → i < length g.rows → (y : Row) → row_at g.rows i ≡ y → (x : Term) → Memᴰ x (own_choice g.types i y) → Memᴰ x (table_of g).terms
+      row i h (variable u) e x (Memᴰ.tail x9) = elim x9 [ ]
+      row i h (constant _ _) e x x8 = elim x8 [ ]
+      row i h (built _ _ _) e x x10 = elim x10 [ ]
+      row i h (field u a v p) e x (Memᴰ.tail x12) = elim x12 [ ]
       row i h (variable u) e x (Memᴰ.head q) = subst (λ (z : Term). Memᴰ z (table_of g).terms) (ap (λ (y : Row). record { term = i; type = type_of g.types y }) e ∙ sym q) (term-row g i h)
       row i h (field u a v p) e x (Memᴰ.head q) = subst (λ (z : Term). Memᴰ z (table_of g).terms) (ap (λ (y : Row). record { term = i; type = type_of g.types y }) e ∙ sym q) (term-row g i h)
 
