@@ -32,6 +32,7 @@ counted : (s : ℕ) (xs : List Term) → map (λ (x : Term). x.term) xs ≡ from
 counted s xs e k h = sym (map_at (λ (x : Term). x.term) xs k no_term 0 h) ∙ ap (λ (l : List ℕ). get_or l k 0) e ∙ from_at (length xs) s k 0 h
 
 position : (xs : List Term) (x : Term) → Memᴰ x xs → (k : ℕ) × (k < length xs) × (get_or xs k no_term ≡ x)
+position [] x x3 = elim x3 [ ]
 position (y ∷ xs) x (mathlib.Core.List.Memᴰ.head e) = (0, omega arith, sym e)
 position (y ∷ xs) x (mathlib.Core.List.Memᴰ.tail m) = let (k, h, e) = position xs x m in (suc k, omega arith, e)
 

@@ -1,4 +1,4 @@
--- The tables of a well_formed_lem guard meet what `sibling_fields` requires, and its columns are those of the guard.
+-- The tables of a well-formed guard meet what `sibling_fields` requires, and its columns are those of the guard.
 -- Assumes nothing.
 use mathlib.Core.Path.{◌≡◌, refl, ap, sym, ◌∙◌, subst}
 use mathlib.Core.Bool.{cond}

@@ -50,7 +50,7 @@ module _ (kinds types variants parts first arities : List ℕ) where
   unfoldable pub sort_entries : List ℕ → ℕ → List ℕ
   sort_entries sorts n = pad 48 (map (λ x. sort_entry sorts (x / 2) (x % 2)) (from n 0))
 
--- what `sibling_fields` computes; for the tables of a well_formed_lem guard it is `siblings_in`
+-- what `sibling_fields` computes; for the tables of a well-formed guard it is `siblings_in`
 unfoldable pub siblings_by : TypeTable → RowTable → Siblings
 siblings_by table rows =
     record {
