@@ -24,9 +24,14 @@ def cargo(package, *names):
 
 def build():
     """Builds everything; gives the path of each program by its name."""
-    for words in (["check", "searchvectors"], ["check", "guarddesk"], ["staticlib", "desklink"]):
-        subprocess.run(["rt", *words], cwd=ROOT, check=True, stdout=subprocess.DEVNULL)
-    programs = {name: str(ROOT / "target" / "bin" / name) for name in ("searchvectors", "guarddesk")}
+    crates = ROOT / "crates"
+    subprocess.run(["rt", "lib"], cwd=crates / "desklink", check=True, stdout=subprocess.DEVNULL)
+    programs = {}
+    for name in ("searchvectors", "guarddesk"):
+        # It runs the program too, once.
+        with open(crates / name / "stdin", "rb") as stdin:
+            subprocess.run(["rt", "run"], cwd=crates / name, check=True, stdin=stdin, stdout=subprocess.DEVNULL)
+        programs[name] = str(crates / name / "out" / name)
     programs["search"], programs["desk"] = cargo("bench/twin", "search", "desk")
     (programs["calls"],) = cargo("bench/calls", "calls")
     return programs

@@ -1,4 +1,4 @@
-//! Links the proved library. `rt staticlib desklink` in the repository writes it; the variable `GUARDDESK_LIBRARY` names
+//! Links the proved library. `rt lib` in crates/desklink writes it; the variable `GUARDDESK_LIBRARY` names
 //! another folder that has it.
 use std::{env, path::PathBuf};
 
@@ -7,14 +7,14 @@ fn main() {
     let folder = match env::var_os("GUARDDESK_LIBRARY") {
         Some(folder) => PathBuf::from(folder),
         None => {
-            PathBuf::from(env::var_os("CARGO_MANIFEST_DIR").unwrap()).join("../../target/staticlib")
+            PathBuf::from(env::var_os("CARGO_MANIFEST_DIR").unwrap()).join("../../crates/desklink/out")
         }
     };
     let library = folder.join("libdesklink.a");
     println!("cargo:rerun-if-changed={}", library.display());
     if !library.is_file() {
         panic!(
-            "{} is not there: run `rt staticlib desklink`, or set GUARDDESK_LIBRARY to its folder",
+            "{} is not there: run `rt lib` in crates/desklink, or set GUARDDESK_LIBRARY to its folder",
             library.display()
         );
     }
