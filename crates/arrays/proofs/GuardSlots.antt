@@ -1,4 +1,4 @@
--- The arrays of a well_formed_lem guard's problem: each slot is of a read, a build or a term of the guard's table, or empty, and each of
+-- The arrays of a well-formed guard's problem: each slot is of a read, a build or a term of the guard's table, or empty, and each of
 -- these has its slot. So the numbers in the arrays are those of terms and types. Assumes nothing.
 use mathlib.Core.Path.{◌≡◌, refl, ap, ap₂, sym, ◌∙◌, subst}
 use mathlib.Core.List.{List, [], Memᴰ}

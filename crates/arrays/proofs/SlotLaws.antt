@@ -1,4 +1,4 @@
--- What stands in each slot of a well_formed_lem guard's problem: of shapes, reads and constants what the row or the default
+-- What stands in each slot of a well-formed guard's problem: of shapes, reads and constants what the row or the default
 -- gives; of sorts the type of each term, and no others. Assumes nothing.
 use mathlib.Core.Path.{◌≡◌, refl, ap, sym, ◌∙◌, subst}
 use mathlib.Core.Bool.{Bool, true, false}

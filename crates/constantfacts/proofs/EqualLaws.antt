@@ -1,4 +1,4 @@
--- The equal constants of the arrays of a well_formed_lem guard are those that document 01 gives for it, up to the order of two: a claim about
+-- The equal constants of the arrays of a well-formed guard are those that document 01 gives for it, up to the order of two: a claim about
 -- two equal terms, in either order, that holds of the ones holds of the others. Assumes nothing.
 use mathlib.Core.Path.{◌≡◌, ap, ap₂, sym, ◌∙◌, subst}
 use mathlib.Core.Bool.{true, cond, not, ◌&&◌}

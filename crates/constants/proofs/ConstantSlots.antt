@@ -1,4 +1,4 @@
--- The constants of a well_formed_lem guard: each slot in use is of a constant of the guard's table, and each constant has its slot.
+-- The constants of a well-formed guard: each slot in use is of a constant of the guard's table, and each constant has its slot.
 -- Assumes nothing.
 use mathlib.Core.Path.{◌≡◌, refl, ap, sym, ◌∙◌, subst}
 use mathlib.Core.List.{List, [], ◌∷◌, Memᴰ}

@@ -1,4 +1,4 @@
--- What is given by the arrays of a well_formed_lem guard is what document 01 gives for it, up to the order of two equal constants. So the
+-- What is given by the arrays of a well-formed guard is what document 01 gives for it, up to the order of two equal constants. So the
 -- state that begins with it is reached, and says all that is given. Assumes nothing.
 use mathlib.Core.Path.{◌≡◌, refl, ap, ap₂, sym, ◌∙◌, subst}
 use mathlib.Core.Bool.{Bool, true, false}

@@ -1,4 +1,4 @@
--- An accepted file holds a well_formed_lem guard, and is no longer than the limits allow: question by question, along the
+-- An accepted file holds a well-formed guard, and is no longer than the limits allow: question by question, along the
 -- file. Assumes nothing.
 use mathlib.Core.Path.{◌≡◌, refl, ap, sym, subst, ◌∙◌}
 use mathlib.Core.List.Memᴰ
@@ -333,7 +333,7 @@ reads-file limits sup =
     Good : (ℕ → ℕ) → Guard → ℕ → Type 0
     Good bytes g z = Accepted limits g × (bytes z ≤ 1 + 3 * limits.lines)
 
--- an accepted file holds a well_formed_lem guard
+-- an accepted file holds a well-formed guard
 pub accepted_well_formed : (limits : Limits) → Supported limits → (bytes : List ℕ) (g : Guard) (rest : List ℕ) → file limits bytes ≡ accepted g rest → WellFormed limits g
 unfolding Reads
 accepted_well_formed limits sup bytes g rest e = let (u, l, h) = reads-file limits sup bytes g rest e in h.0.0

@@ -212,7 +212,7 @@ module _ (g : Guard) where
   term_inv P h k l =
       term-cases P h (λ r j x m. k r j x (filter-is (λ x. not (eqb x.term r.row)) (pair_terms r.fields (fields_of g.types r.type r.variant)) x m).0) l
 
--- ---- the numbers of a well_formed_lem guard's table are in range
+-- ---- the numbers of a well-formed guard's table are in range
 
 -- the fieldless variants, by position
 pub fieldless-is : (n v : ℕ) (vs : List Variant) → Memᴰ v (fieldless n vs) → (k : ℕ) × (v ≡ n + k) × (k < length vs) × (get_or vs k [] ≡ [])
@@ -300,7 +300,7 @@ module _ (limits : Limits) (sup : Supported limits) (g : Guard) (ok : WellFormed
           (λ i t a v p h e x m. pair_small (field_terms i p 0 (sibling_term i) (fields_of g.types t v)) (fields_of g.types t v) (read-fields-small i t a v p h e) x m))
           (λ t h. omega (arith, few-types))
 
-  -- the literals of a well_formed_lem guard are in range
+  -- the literals of a well-formed guard are in range
   pub literals_in_range_lem : LiteralsInRange g.literals
   literals_in_range_lem l m = go l (ok.literals l m)
     where

@@ -1,4 +1,4 @@
--- The head of a file that is read fits: a well_formed_lem guard without lines, and tables within the ranges that readers of lines ask for.
+-- The head of a file that is read fits: a well-formed guard without lines, and tables within the ranges that readers of lines ask for.
 -- Assumes nothing.
 use mathlib.Core.Path.{◌≡◌, refl, ap, sym, subst, ◌∙◌}
 use mathlib.Core.List.{List}

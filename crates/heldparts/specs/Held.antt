@@ -1,4 +1,4 @@
--- Tables that hold the parts of a well_formed_lem guard. Assumes nothing: definitions.
+-- Tables that hold the parts of a well-formed guard. Assumes nothing: definitions.
 use Rattle.std.specs.Prelude.{◌≡◌, List, ℕ, ◌≤◌, ◌<◌, length}
 use Rattle.laws.specs.All.{All}
 use Rattle.guard.specs.Guard.{Literal, Row, row_at}

@@ -1,4 +1,4 @@
--- The labels that the arrays of a well_formed_lem guard give are those that document 01 gives for it: a claim that holds of the ones holds
+-- The labels that the arrays of a well-formed guard give are those that document 01 gives for it: a claim that holds of the ones holds
 -- of the others. Assumes nothing.
 use mathlib.Core.Path.{◌≡◌, refl, ap, ap₂, sym, ◌∙◌, subst}
 use mathlib.Core.Bool.{not}

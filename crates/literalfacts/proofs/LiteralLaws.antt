@@ -1,4 +1,4 @@
--- What the literals of the table of a guard give is what document 01 gives for them; those of a well_formed_lem guard are as the code
+-- What the literals of the table of a guard give is what document 01 gives for them; those of a well-formed guard are as the code
 -- requires them. Assumes nothing.
 use mathlib.Core.Path.{◌≡◌, refl, ap, ap₂, sym, ◌∙◌, subst}
 use mathlib.Core.List.{List, [], ◌∷◌, ◌++◌, map}

@@ -1,4 +1,4 @@
--- Two well_formed_lem guards as one are well formed, if there is room: types and their counts are the first's, and rows and literals
+-- Two well-formed guards as one are well formed, if there is room: types and their counts are the first's, and rows and literals
 -- fit, renumbered. Assumes nothing.
 use mathlib.Core.Path.{◌≡◌, sym, subst}
 use mathlib.Core.Bool.{true}

@@ -1,4 +1,4 @@
--- Every term of a well_formed_lem guard's table has one type: a row its row's, a sibling that of its field, a default the
+-- Every term of a well-formed guard's table has one type: a row its row's, a sibling that of its field, a default the
 -- type it is the default of. Parts of builds have the types of the fields that they fill, and the two terms of each
 -- equality have one type. So the rules, which equate nothing else, keep to types. Assumes nothing.
 use mathlib.Core.Path.{◌≡◌, refl, ap, sym, ◌∙◌, subst}
@@ -148,7 +148,7 @@ pair_types P (p ∷ ps) [] _ x x9 = elim x9 [ ]
 pair_types P (p ∷ ps) (f ∷ fs) (more h hs) x (Memᴰ.head e) = subst (λ (y : Term). P y.type) (sym e) h
 pair_types P (p ∷ ps) (f ∷ fs) (more h hs) x (Memᴰ.tail m) = pair_types P ps fs hs x m
 
--- ---- the table of a well_formed_lem guard is typed
+-- ---- the table of a well-formed guard is typed
 
 module _ (limits : Limits) (sup : Supported limits) (g : Guard) (ok : WellFormed limits g) where
   abbrev ts : Types

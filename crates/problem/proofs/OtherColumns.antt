@@ -1,4 +1,4 @@
--- Reads, sorts, masks and constants that are computed from the tables of a well_formed_lem guard are the guard's, place by
+-- Reads, sorts, masks and constants that are computed from the tables of a well-formed guard are the guard's, place by
 -- place. Assumes nothing.
 use mathlib.Core.Path.{◌≡◌, refl, ap, sym, ◌∙◌}
 use mathlib.Core.Bool.{Bool, true, false, cond}

@@ -1,4 +1,4 @@
--- What `problem_of` computes from the tables of a well_formed_lem guard is the guard's problem. Assumes nothing.
+-- What `problem_of` computes from the tables of a well-formed guard is the guard's problem. Assumes nothing.
 use mathlib.Core.Path.{◌≡◌, ap, sym, ◌∙◌}
 use mathlib.Core.List.{List, map}
 use Prim.Native.Nat.{ℕ, ◌≤◌, ◌<◌}

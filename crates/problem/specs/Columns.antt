@@ -1,5 +1,5 @@
 -- The problem that is computed from a guard's tables, column by column; each crate of a column says what its places are.
--- For the tables of a well_formed_lem guard it is that of `Problem`. Assumes nothing: definitions.
+-- For the tables of a well-formed guard it is that of `Problem`. Assumes nothing: definitions.
 use Rattle.reader.specs.declared.Tables.{Tables}
 use Rattle.columns.specs.Entries.{filled}
 use Rattle.shapecolumn.specs.Shapes.{shape_entry}

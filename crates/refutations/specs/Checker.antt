@@ -29,7 +29,7 @@ module _ {A : Type 0} where
   refused_as q (refused p) = refused q
   refused_as q (accepted a bs) = accepted a bs
 
--- "when it is cut short, isn't one of these in well_formed_lem numbers"
+-- "when it is cut short, isn't one of these in well-formed numbers"
 abbrev pub entry : Parser Entry
 entry bs = refused_as 12 ((unsigned >>= entry_of) bs)
 
@@ -44,7 +44,7 @@ below child (inside i) = return tt
 below child (split_on d) = child (is d.term d.variant) >> child (isnt d.term d.variant)
 
 -- a node, from the test of its claims and the check of a child. "12, asked by the checker at each node, when it is cut short,
--- isn't one of these in well_formed_lem numbers, or claims what doesn't hold; 13, asked after 12, when the record ends between
+-- isn't one of these in well-formed numbers, or claims what doesn't hold; 13, asked after 12, when the record ends between
 -- nodes before its last branch closes"
 abbrev pub check_node : (Entry → Bool) → (Literal → Parser (Unit {0})) → Parser (Unit {0})
 check_node holds child [] = refused 13

@@ -1,4 +1,4 @@
--- What is due by the arrays of a well_formed_lem guard's problem follows by the rules for the guard, and where all that is due holds,
+-- What is due by the arrays of a well-formed guard's problem follows by the rules for the guard, and where all that is due holds,
 -- nothing that the rules give is new: each family of rules, and all together. Assumes nothing.
 use mathlib.Core.Path.{◌≡◌}
 use mathlib.Core.Bool.{true}

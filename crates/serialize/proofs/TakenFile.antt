@@ -1,4 +1,4 @@
--- A well_formed_lem guard has a file: its tokens, written for any source, are taken as that guard, part by part along the grammar. Assumes
+-- A well-formed guard has a file: its tokens, written for any source, are taken as that guard, part by part along the grammar. Assumes
 -- nothing.
 use mathlib.Core.Path.{◌≡◌, refl, ap, ap₂, sym, subst, ◌∙◌}
 use mathlib.Core.Bool.{Bool, true, false, not, ◌&&◌}
@@ -45,7 +45,7 @@ all-some : (xs : List (Option Message)) → ((i : ℕ) → i < length xs → (m 
 all-some [] h = refl
 all-some (x ∷ xs) h = and-true (is_some x) (all is_some xs) (ap is_some (h 0 (omega arith)).1) (all-some xs (λ i l. h (suc i) (omega (arith, l))))
 
--- the types of a well_formed_lem guard fit, and have their defaults
+-- the types of a well-formed guard fit, and have their defaults
 module _ {limits : Limits} {g : Guard} (w : WellFormed limits g) where
   pub types-fit : All (TypeFits (length g.types)) g.types
   types-fit = all-at g.types [] (λ t. (w.variant_counts t, all-at (variants_of g.types t) [] (λ v. (w.field_counts t v, w.field_types t v))))

@@ -1,5 +1,5 @@
 -- Request #102: a list that is taken is read back from its bytes, and a file that is taken, with at most one number type, has the bytes
--- of its list. And every well_formed_lem guard has a file, for whatever writes guards. Assumes nothing.
+-- of its list. And every well-formed guard has a file, for whatever writes guards. Assumes nothing.
 use mathlib.Core.Path.{◌≡◌, refl, ap, sym, subst, ◌∙◌}
 use mathlib.Core.List.{List, [], ◌∷◌, ◌++◌, append-nil, map}
 use Prim.Native.Nat.{ℕ, ◌≤◌, ◌<◌}
@@ -150,7 +150,7 @@ module _ (limits : Limits) (sup : Supported limits) where
   pub several_refused : (bs : List ℕ) (g : Guard) (rest : List ℕ) → All (λ b. b < 256) bs → file limits bs ≡ accepted g rest → 1 < number_types g.types → list_file limits (numbers_of g) ≡ refused 18
   several_refused bs g rest small e several = numbers-refused limits (numbers_of g) g [] (file-numbers bs g rest small e).0 several
 
-  -- the bytes of a well_formed_lem guard are a file of it
+  -- the bytes of a well-formed guard are a file of it
   pub well_formed-file : (g : Guard) → WellFormed limits g → length (concat_map (λ (vs : List Variant). vs) g.types) ≤ total_variant_limit → file limits (bytes_of g) ≡ accepted g []
   unfolding file bytes_of TakesBefore as_bytes
   well_formed-file g w total = ap (file_of bytes limits) (sym (append-nil (concat_map token_bytes (guard_tokens g)))) ∙ takes_file as_bytes limits sup g w total [] refl

@@ -63,7 +63,7 @@ cases =
     ∷ refuses 7 (pos 1 ∷ pos 0 ∷ pos 1 ∷ pos 2 ∷ pos 0 ∷ [])
     ∷ refuses 8 (pos 1 ∷ pos 1 ∷ pos 1 ∷ pos 0 ∷ [])
     ∷ refuses 9 (pos 2 ∷ pos 1 ∷ pos 0 ∷ pos 1 ∷ pos 1 ∷ pos 0 ∷ [])
-    -- two number types, the list well_formed_lem otherwise; and one that stops behind its types
+    -- two number types, the list well-formed otherwise; and one that stops behind its types
     ∷ refuses 18 (all_plain (2 ∷ 0 ∷ 0 ∷ 0 ∷ 0 ∷ []))
     ∷ refuses 18 (all_plain (2 ∷ 0 ∷ 0 ∷ []))
     -- two of three types, with numbers behind them that are no rows

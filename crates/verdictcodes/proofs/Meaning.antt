@@ -1,4 +1,4 @@
--- What the numbers mean, for every well_formed_lem guard: 1 that some messages make it hold, 2 that none do, 3 that the budget is below the node
+-- What the numbers mean, for every well-formed guard: 1 that some messages make it hold, 2 that none do, 3 that the budget is below the node
 -- count. There is no other. Assumes nothing.
 use mathlib.Core.Path.{◌≡◌, refl, ap, ◌∙◌}
 use mathlib.Core.Bool.{Bool, true, false, cond}
