@@ -27,6 +27,7 @@ is_nonzero n h = ap not (ne_eqb n 0 h)
 
 module _ {A : Type 0} where
   pub when-is : (b : Bool) (xs : List A) {x : A} → Memᴰ x (when b xs) → (b ≡ true) × Memᴰ x xs
+  when-is false xs m = elim m [ ]
   when-is true xs m = (refl, m)
 
   pub mem_when : (b : Bool) (xs : List A) {x : A} → b ≡ true → Memᴰ x xs → Memᴰ x (when b xs)
@@ -38,6 +39,7 @@ module _ (test : Bool) (x y : ℕ) where
   one-is m = let (e, n) = when-is test (same x y ∷ []) m in (e, only n)
     where
       only : {f : Fact} → Memᴰ f (same x y ∷ []) → f ≡ same x y
+      only (mathlib.Core.List.Memᴰ.tail x5) = elim x5 [ ]
       only (Memᴰ.head q) = q
 
   pub mem_one : {f : Fact} → test ≡ true → f ≡ same x y → Memᴰ f (when test (same x y ∷ []))

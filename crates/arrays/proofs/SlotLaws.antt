@@ -60,6 +60,8 @@ constant-length i (field t a v p) = refl
 
 -- the type of a term in a list of pairs
 pair-type : (is fs : List ℕ) (x : Term) → Memᴰ x (pair_terms is fs) → Memᴰ x.type fs
+pair-type [] fs x x3 = elim x3 [ ]
+pair-type (i ∷ is) [] x x6 = elim x6 [ ]
 pair-type (i ∷ is) (f ∷ fs) x (mathlib.Core.List.Memᴰ.head e) = mathlib.Core.List.Memᴰ.head (ap (λ (y : Term). y.type) e)
 pair-type (i ∷ is) (f ∷ fs) x (mathlib.Core.List.Memᴰ.tail m) = mathlib.Core.List.Memᴰ.tail (pair-type is fs x m)
 
