@@ -9,7 +9,7 @@ ghost use Rattle.addedline.specs.LineRead.{ReadsLine, no_line};
 use tables::{LiteralTable, RowTable, TypeTable};
 
 // The guard's lines with the added one behind them; or the question that refused it, and an empty table.
-#[derive(Drop)]
+#[derive(Clone, Copy)]
 pub struct LineRead {
     pub refused: u32,
     pub literals: LiteralTable,

@@ -11,7 +11,7 @@ use numbers::Number;
 use tables::{LiteralTable, RowTable, TypeTable};
 
 // The table of each branch's lines; or the question that refused, and empty tables.
-#[derive(Drop)]
+#[derive(Clone, Copy)]
 pub struct BranchesRead {
     pub refused: u32,
     pub many: usize,
@@ -19,7 +19,7 @@ pub struct BranchesRead {
 }
 
 // The tables of a procedure; or the question that refused its file, and empty tables.
-#[derive(Drop)]
+#[derive(Clone, Copy)]
 pub struct ProcedureRead {
     pub refused: u32,
     pub types: TypeTable,

@@ -10,7 +10,7 @@ use branchreader::ProcedureRead;
 use tables::LiteralTable;
 
 // How many branches there are; or the question that refused the call.
-#[derive(Drop)]
+#[derive(Clone, Copy)]
 pub struct Judged {
     pub refused: u32,
     pub branches: usize,

@@ -5,7 +5,7 @@ ghost use Rattle.std.specs.Prelude.{◌≡◌, [], ◌∷◌, ◌≤◌, length,
 ghost use Rattle.bytebuffer.specs.Puts.{Puts};
 
 // Whether all bytes fit, and the place behind them if they do.
-#[derive(Drop)]
+#[derive(Clone, Copy)]
 pub struct End {
     pub fits: bool,
     pub at: usize,

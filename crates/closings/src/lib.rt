@@ -12,7 +12,7 @@ use cycles::inside_itself;
 use reasons::{broken_line, empty_label, unlike_constants};
 
 // A reason by its number in the record and the term or line that it is found at; kind 4 and number 0 stand for none.
-#[derive(Drop)]
+#[derive(Clone, Copy)]
 pub struct Closing {
     pub kind: u8,
     pub number: u8,

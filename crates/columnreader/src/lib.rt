@@ -14,7 +14,7 @@ ghost use Rattle.columnreader.specs.Cells.{Holds, ReadsColumn, ReadsColumns};
 use tables::TypeTable;
 
 // A number of a row, and where reading goes on; or the question that refused.
-#[derive(Drop)]
+#[derive(Clone, Copy)]
 struct Cell {
     refused: u32,
     at: usize,
@@ -22,7 +22,7 @@ struct Cell {
 }
 
 // Where reading goes on, or the question that refused.
-#[derive(Drop)]
+#[derive(Clone, Copy)]
 pub struct Cursor {
     pub refused: u32,
     pub at: usize,

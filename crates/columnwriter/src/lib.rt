@@ -11,7 +11,7 @@ use reader::Tables;
 use tables::{RowTable, TypeTable};
 
 // A number of a row, if it has one at some place.
-#[derive(Drop)]
+#[derive(Clone, Copy)]
 struct Entry {
     there: bool,
     number: u64,

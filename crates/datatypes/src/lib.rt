@@ -12,7 +12,7 @@ ghost use Rattle.datatypes.specs.Facts.{all_growing, growing, refused_at, type_f
 use tables::TypeTable;
 
 // The outcome of the questions 8 and 9: the number of the one that got a no, or 0; the variant of each type's default.
-#[derive(Drop)]
+#[derive(Clone, Copy)]
 pub struct TypeFacts {
     pub refused: u32,
     pub defaults: [u8; 6],

@@ -11,7 +11,7 @@ use drawnrows::Drawn;
 use forms::Forms;
 
 // The rows of a message's parts, zeros behind, and how many rows there are then.
-#[derive(Drop)]
+#[derive(Clone, Copy)]
 pub struct PartRows {
     pub rows: [usize; 3],
     pub many: usize,

@@ -10,7 +10,7 @@ use rowstore::row_of;
 use words::words_of;
 
 // The row of a message, and how many rows there are then.
-#[derive(Drop)]
+#[derive(Clone, Copy)]
 pub struct Drawn {
     pub row: usize,
     pub many: usize,

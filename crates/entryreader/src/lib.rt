@@ -6,7 +6,7 @@ ghost use Rattle.refutations.specs.Checker.{entry};
 ghost use Rattle.entryreader.specs.Entries.{EntrySays};
 
 // An entry of a record: its kind, a term or a line, and for a split the variant; or the question that refused it.
-#[derive(Drop)]
+#[derive(Clone, Copy)]
 pub struct EntryRead {
     pub refused: u32,
     pub at: usize,

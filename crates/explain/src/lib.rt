@@ -9,7 +9,7 @@ use guard::Answer;
 use recordwriter::Written;
 
 // The answer, and the number of bytes of the record; there is none but after UNSAT.
-#[derive(Drop)]
+#[derive(Clone, Copy)]
 pub struct Explained {
     pub answer: Answer,
     pub bytes: usize,

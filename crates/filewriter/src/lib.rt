@@ -42,7 +42,7 @@ fn put_numbers(list: &[i64], marks: &[u8; 640], out: &mut [u8]) -> End
 }
 
 // The question that refused a list, or 0 and the number of bytes of its file.
-#[derive(Drop)]
+#[derive(Clone, Copy)]
 pub struct FileWritten {
     pub refused: u32,
     pub bytes: usize,

@@ -11,7 +11,7 @@ use growthtables::Growth;
 use tables::TypeTable;
 
 // What is looked at: the types, the variant of each type's default, and how messages grow.
-#[derive(Drop)]
+#[derive(Clone, Copy)]
 pub struct Forms {
     pub table: TypeTable,
     pub defaults: [u8; 6],

@@ -20,7 +20,7 @@ use forms::Forms;
 use leaf::Leaf;
 
 // The row of a free class, how many rows there are then, and the last fresh number used.
-#[derive(Drop)]
+#[derive(Clone, Copy)]
 struct Planned {
     row: usize,
     many: usize,
@@ -28,7 +28,7 @@ struct Planned {
 }
 
 // How many rows there are, and the last fresh number used.
-#[derive(Drop)]
+#[derive(Clone, Copy)]
 struct Counted {
     many: usize,
     last: u32,

@@ -9,7 +9,7 @@ ghost use Rattle.growthtables.specs.Growth.{growth_by};
 use finite::finite_types;
 use tables::TypeTable;
 
-#[derive(Drop)]
+#[derive(Clone, Copy)]
 pub struct Growth {
     // for each variant, counted through all types: the position of its first infinite field
     pub chosen: [u8; 48],

@@ -2,7 +2,7 @@
 #![tactic(auto)]
 
 // The answer of a call. `specs/Answer.antt` sets out the document's number and values for each case.
-#[derive(Drop)]
+#[derive(Clone, Copy)]
 pub enum Answer {
     Refused {
         question: u32,

@@ -7,7 +7,7 @@ ghost use Rattle.headreader.specs.Head.{head_at, no_head};
 use tables::{RowTable, TypeTable};
 
 // The tables, and where the rest begins; or the question that refused, and empty tables.
-#[derive(Drop)]
+#[derive(Clone, Copy)]
 pub struct HeadRead {
     pub refused: u32,
     pub at: usize,

@@ -6,7 +6,7 @@ ghost use Rattle.arrays.specs.Slots.{SortsFit};
 ghost use Rattle.labelled.specs.Covers.{Lists, has_label};
 
 // A list of terms, in the first places, and how many there are.
-#[derive(Drop)]
+#[derive(Clone, Copy)]
 pub struct Labelled {
     pub terms: [u8; 96],
     pub many: usize,

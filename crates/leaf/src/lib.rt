@@ -3,7 +3,7 @@
 
 // The state of the node, what the closure looks at, the constants' values, the classes that get a message (0 in `marks`)
 // and their ranks.
-#[derive(Drop)]
+#[derive(Clone, Copy)]
 pub struct Leaf {
     pub classes: [u8; 96],
     pub labels: [u16; 96],

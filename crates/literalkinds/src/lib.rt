@@ -5,7 +5,7 @@ ghost use Rattle.std.specs.Prelude.{◌≡◌, ◌≤◌, drop};
 ghost use Rattle.literalkinds.specs.OneLiteral.{EachBelow, LiteralSays, PairSays, literal_by, numbers_by, test_by, two_by};
 
 // The two numbers of a literal: a term, and a second term or a variant; or the question that refused them.
-#[derive(Drop)]
+#[derive(Clone, Copy)]
 struct Pair {
     refused: u32,
     at: usize,
@@ -14,7 +14,7 @@ struct Pair {
 }
 
 // A literal with its kind.
-#[derive(Drop)]
+#[derive(Clone, Copy)]
 pub struct LiteralRead {
     pub refused: u32,
     pub at: usize,

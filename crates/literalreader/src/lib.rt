@@ -7,7 +7,7 @@ ghost use Rattle.literalreader.specs.LiteralReader.{EachBelow, lines_at, literal
 use tables::LiteralTable;
 
 // The table of lines, and where what follows them begins; or the question that refused, and an empty table.
-#[derive(Drop)]
+#[derive(Clone, Copy)]
 pub struct LinesRead {
     pub refused: u32,
     pub at: usize,
@@ -15,7 +15,7 @@ pub struct LinesRead {
 }
 
 // The table of literals; or the question that refused, and an empty table.
-#[derive(Drop)]
+#[derive(Clone, Copy)]
 pub struct LiteralsRead {
     pub refused: u32,
     pub literals: LiteralTable,

@@ -7,7 +7,7 @@ ghost use Rattle.search.specs.Nodes.{ArraysFit, StateFit};
 ghost use Rattle.nodechecker.specs.Nodes.{Checks};
 
 // What was found of a node and of all below it: 0 and the cursor after them, or the question that got the first no.
-#[derive(Drop)]
+#[derive(Clone, Copy)]
 pub struct NodeRead {
     pub refused: u32,
     pub at: usize,

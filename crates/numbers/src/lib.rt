@@ -9,7 +9,7 @@ ghost use Rattle.numbers.specs.Reader.{refusal, number_at, below_at};
 
 // What a read found. `refused` is 0, or the question that refused, and then `value` and `at` are 0 too.
 // `at` is the cursor after the number.
-#[derive(Drop)]
+#[derive(Clone, Copy)]
 pub struct Number {
     pub refused: u32,
     pub value: u32,

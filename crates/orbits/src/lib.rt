@@ -107,7 +107,7 @@ fn period_entry(next: &[u8], many: u8, t: u8) -> u8
 }
 
 // The cycle that growth from each type ends in.
-#[derive(Drop)]
+#[derive(Clone, Copy)]
 pub struct Cycles {
     // its lowest type, and the steps to it
     pub root: [u8; 6],

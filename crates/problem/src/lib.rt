@@ -7,7 +7,7 @@ ghost use Rattle.problem.specs.Columns.{problem_by};
 
 use reader::Tables;
 
-#[derive(Drop)]
+#[derive(Clone, Copy)]
 pub struct Problem {
     // eight places to a slot: a term, its kind, the variants that must have gone, how many parts, the parts
     pub shapes: [u16; 256],

@@ -8,7 +8,7 @@ use siblings::Siblings;
 use tables::{LiteralTable, RowTable, TypeTable};
 
 // The tables of a guard file; or the question that refused it, and empty tables.
-#[derive(Drop)]
+#[derive(Clone, Copy)]
 pub struct Tables {
     pub refused: u32,
     pub types: TypeTable,

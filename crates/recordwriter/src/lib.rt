@@ -10,7 +10,7 @@ use problem::Problem;
 use reader::Tables;
 
 // Whether the whole record fits, and how many bytes it has then.
-#[derive(Drop)]
+#[derive(Clone, Copy)]
 pub struct Written {
     pub fits: bool,
     pub many: usize,

@@ -8,7 +8,7 @@ use tables::RowTable;
 
 // The second's rows: their names, 0 behind them; 1 in `skipped` for those that are not written, since they are variables of the first.
 // How many rows the merged guard has, and whether all variables taken as one have one type.
-#[derive(Drop)]
+#[derive(Clone, Copy)]
 pub struct Names {
     pub names: [u8; 24],
     pub skipped: [u8; 24],

@@ -13,7 +13,7 @@ use filewriter::FileWritten;
 use tables::TypeTable;
 
 // The types of a stored file, its number of rows, and where its columns begin; or the question that refused.
-#[derive(Drop)]
+#[derive(Clone, Copy)]
 struct Head {
     refused: u32,
     at: usize,

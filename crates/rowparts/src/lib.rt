@@ -12,7 +12,7 @@ use tables::TypeTable;
 
 // What a read of parts found. `refused` is 0, or the question that refused, and then all else is 0, here and below.
 // `at` is the cursor after what was read.
-#[derive(Drop)]
+#[derive(Clone, Copy)]
 struct PartsRead {
     refused: u32,
     at: usize,
@@ -20,7 +20,7 @@ struct PartsRead {
 }
 
 // One row: its type, the variant built or read, its parts, and the value of a constant, as in a table of rows.
-#[derive(Drop)]
+#[derive(Clone, Copy)]
 pub struct RowRead {
     pub refused: u32,
     pub at: usize,

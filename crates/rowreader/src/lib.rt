@@ -11,7 +11,7 @@ use tables::{RowTable, TypeTable};
 
 // What a read of all rows found. `refused` is 0, or the question that refused, and then all else is 0. `at` is the cursor
 // after what was read.
-#[derive(Drop)]
+#[derive(Clone, Copy)]
 pub struct RowsRead {
     pub refused: u32,
     pub at: usize,

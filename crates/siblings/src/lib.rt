@@ -8,7 +8,7 @@ ghost use Rattle.siblings.specs.Siblings.{ReadsInRange, SortsInRange, field_entr
 
 use tables::{RowTable, TypeTable};
 
-#[derive(Drop)]
+#[derive(Clone, Copy)]
 pub struct Siblings {
     // three places to a row: for a field read the terms of its variant's fields in order of position
     pub fields: [u8; 72],

@@ -12,7 +12,7 @@ ghost use Rattle.splits.specs.Choice.{choice_of, first_by, lowest_in, read_split
 use slots::{label_at, wide};
 
 // A decision to split on: whether there is one, whether it is of the first kind, its term and its variant.
-#[derive(Drop)]
+#[derive(Clone, Copy)]
 pub struct Choice {
     pub found: bool,
     pub first: bool,

@@ -3,7 +3,7 @@
 #![tactic(auto)]
 
 // The types. Variants of all types are counted through, type by type.
-#[derive(Drop)]
+#[derive(Clone, Copy)]
 pub struct TypeTable {
     pub many: usize,
     // for each type: how many variants it has, and how many the types before it have
@@ -15,7 +15,7 @@ pub struct TypeTable {
 }
 
 // The term rows.
-#[derive(Drop)]
+#[derive(Clone, Copy)]
 pub struct RowTable {
     pub many: usize,
     // 0 variable, 1 constant, 2 built, 3 field read
@@ -30,7 +30,7 @@ pub struct RowTable {
 }
 
 // The literals.
-#[derive(Drop)]
+#[derive(Clone, Copy)]
 pub struct LiteralTable {
     pub many: usize,
     // 0 equal, 1 unequal, 2 is, 3 isn't

@@ -6,7 +6,7 @@ ghost use Rattle.guard.specs.Search.{Visit.leaf, Visit.split};
 ghost use Rattle.tallies.specs.Outcome.{after_one, is_closed_outcome, kind_by, tally_of, total};
 
 // The nodes that are left of a budget, and the splits of either kind that were made.
-#[derive(Drop)]
+#[derive(Clone, Copy)]
 pub struct Tally {
     pub left: u32,
     pub first: u32,
@@ -14,7 +14,7 @@ pub struct Tally {
 }
 
 // How a search ends.
-#[derive(Drop)]
+#[derive(Clone, Copy)]
 pub enum Outcome {
     Open(Tally),
     Closed(Tally),

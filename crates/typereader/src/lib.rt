@@ -8,7 +8,7 @@ ghost use Rattle.typereader.specs.TypeReader.{one_type, no_type, one_type_at, no
 use tables::TypeTable;
 
 // How many variants a type has, and where reading goes on; or the question that refused.
-#[derive(Drop)]
+#[derive(Clone, Copy)]
 struct TypeRead {
     refused: u32,
     at: usize,
@@ -16,7 +16,7 @@ struct TypeRead {
 }
 
 // The table of types, and where reading goes on; or the question that refused, and an empty table.
-#[derive(Drop)]
+#[derive(Clone, Copy)]
 pub struct TypesRead {
     pub refused: u32,
     pub at: usize,

@@ -8,7 +8,7 @@ ghost use Rattle.values.specs.Values.{refusal, value_at};
 
 // What a read of a constant's value found. `refused` is 0, or the question that refused, and then `value` and `at` are 0 too.
 // `at` is the cursor after the value.
-#[derive(Drop)]
+#[derive(Clone, Copy)]
 pub struct Value {
     pub refused: u32,
     pub value: i64,

@@ -13,7 +13,7 @@ use tables::{LiteralTable, RowTable, TypeTable};
 use verdicts::verdict_on;
 
 // The masks of a row: the variants settled, and those of them that can occur.
-#[derive(Drop)]
+#[derive(Clone, Copy)]
 struct Masks {
     settled: u16,
     possible: u16,

@@ -7,7 +7,7 @@ ghost use Rattle.guard.specs.File.{variant};
 ghost use Rattle.variantreader.specs.VariantReader.{no_sorts, sorts_at, no_variant, variant_at, store_three, variants_at, Stores};
 
 // The types of a variant's fields, filled up with zeros; or the question that refused them.
-#[derive(Drop)]
+#[derive(Clone, Copy)]
 struct Sorts {
     refused: u32,
     at: usize,
@@ -15,7 +15,7 @@ struct Sorts {
 }
 
 // A variant: how many fields it has, and their types; or the question that refused it.
-#[derive(Drop)]
+#[derive(Clone, Copy)]
 struct VariantRead {
     refused: u32,
     at: usize,
@@ -24,7 +24,7 @@ struct VariantRead {
 }
 
 // Where reading goes on; or the question that refused.
-#[derive(Drop)]
+#[derive(Clone, Copy)]
 pub struct Place {
     pub refused: u32,
     pub at: usize,

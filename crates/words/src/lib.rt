@@ -27,7 +27,7 @@ fn unsigned_word(low: i32) -> u64
 }
 
 // The two numbers of a value in its row: its low 32 bits as a signed number, and what is above them.
-#[derive(Drop)]
+#[derive(Clone, Copy)]
 pub struct Words {
     pub low: i32,
     pub high: i32,
