@@ -5,7 +5,6 @@ use Prim.Native.Nat.{ℕ, zero, suc, ◌<◌}
 use native.Mathlib.Omega.{arith}
 use lib.ListN.{drop}
 use Rattle.guard.specs.Guard.{Literal, Literal.equal}
-use Rattle.guard.specs.File.{kind}
 use Rattle.guard.specs.Number.{Parsed, Parsed.refused, Parser, ◌>>=◌, return}
 use Rattle.tables.specs.Layout.{literal_kind, literal_other, literal_term}
 use Rattle.numbers.specs.Reader.{below, below_at}
