@@ -1,0 +1,13 @@
+-- `pass_reads` meets its contract. Invariant: the reads so far are passed. Assumes nothing.
+use Prim.Native.Nat.{◌≤◌, ◌-◌}
+use Rattle.classes.specs.Held.{Held, state}
+use Rattle.passes.specs.Pass.{Pass}
+use Rattle.passes.proofs.PassLaws.{up_to}
+use Rattle.reads.specs.Due.{read_due}
+use Rattle.reads.proofs.pass_reads.Given as goal
+
+abbrev pub invariant-loop-k : goal.invariant-loop-k
+invariant-loop-k l = (l.k ≤ 24) × Pass (up_to (λ j x. read_due l.reads x j) l.k) (state l.initial.classes l.initial.labels) (state l.classes l.labels) l.changed × Held l.classes
+
+abbrev pub decreases-loop-k : goal.decreases-loop-k
+decreases-loop-k l = 24 - l.k
