@@ -2,13 +2,13 @@
 -- and an accepted one leaves the rest of the row to be read from the next cursor on. Assumes nothing.
 use mathlib.Core.Path.{◌≡◌, refl, ap, sym, ◌∙◌}
 use mathlib.Core.List.{List, [], ◌∷◌}
-use Prim.Native.Nat.{ℕ, ◌+◌, ◌*◌, ◌-◌, ◌≤◌, ◌<◌}
+use Prim.Native.Nat.{ℕ, ◌+◌, ◌*◌, ◌≤◌, ◌<◌}
 use native.Mathlib.Omega.{arith}
 use lib.IntN.{pos}
 use lib.ListN.{length, drop, get_or}
 use Rattle.guard.specs.File.{name}
 use Rattle.guard.specs.Guard.{Row, Row.built, Row.field, type_of}
-use Rattle.guard.specs.Number.{Parsed, Parsed.accepted, Parsed.refused, Parser, ◌>>=◌, ◌>>◌, and_then, return}
+use Rattle.guard.specs.Number.{Parsed, Parsed.accepted, Parsed.refused, Parser, ◌>>=◌, and_then, return}
 use Rattle.guard.specs.Types.{Types, Variant, field_type, fields_of, variants_of}
 use Rattle.rowparts.specs.ByTypes.{built_of, field_of, parts_by}
 use Rattle.tables.specs.Layout.{pad, row_parts, row_value, row_variant, types_of}
