@@ -28,6 +28,7 @@ module _ {A : Type 0} (key : A → ℕ) where
   rising-append a b (x ∷ xs) ys h (l, r) s q = (l, rising-append (suc (key x)) b xs ys (s x (Memᴰ.head refl)) r (λ y m. s y (Memᴰ.tail m)) q)
 
   rising_above : (a : ℕ) (xs : List A) → Rising a xs → (x : A) → Memᴰ x xs → a ≤ key x
+  rising_above a [] _ x x5 = elim x5 [ ]
   rising_above a (y ∷ xs) (l, r) x (Memᴰ.head e) = subst (λ (z : A). a ≤ key z) (sym e) l
   rising_above a (y ∷ xs) (l, r) x (Memᴰ.tail m) = omega (arith, rising_above (suc (key y)) xs r x m, l)
 
@@ -36,6 +37,7 @@ module _ {A : Type 0} (key : A → ℕ) where
     skip y ys q = rw q refl
 
     find_first : (a : ℕ) (xs : List A) → Rising a xs → (x : A) → Memᴰ x xs → p x ≡ true → ((y : A) → Memᴰ y xs → key y < key x → p y ≡ false) → find p xs ≡ some x
+    find_first a [] _ x x7 q f = elim x7 [ ]
     find_first a (y ∷ xs) (l, r) x (Memᴰ.head e) q f = at_head y xs (subst (λ (z : A). p z ≡ true) e q) ∙ ap some (sym e)
       where
         at_head : (y : A) (ys : List A) → p y ≡ true → find p (y ∷ ys) ≡ some y

@@ -104,6 +104,7 @@ module _ (limits : Limits) (supported : Supported limits) (g : Guard) (ok : Well
       row_small = rows_inv (row_term g.types) (λ x. x.term < 24) g.rows (λ i h w e x m. only i h w x m)
         where
           only : (i : ℕ) → i < length g.rows → (w : Row) (x : Term) → Memᴰ x (row_term g.types i w) → x.term < 24
+          only i h w x (mathlib.Core.List.Memᴰ.tail x5) = elim x5 [ ]
           only i h w x (mathlib.Core.List.Memᴰ.head q) = subst (λ (y : Term). y.term < 24) (sym q) (omega (arith, few-rows limits supported g ok))
 
       before-defaults : (x : Term) → Memᴰ x (rows ++ siblings) → x.term < 72
