@@ -10,7 +10,7 @@ use lib.Seq.{get_or-take, length-take-le}
 use borrow.Author.Tests.{eq-eqb, ne_eqb}
 use Rattle.guard.specs.File.{name}
 use Rattle.guard.specs.Guard.{Row, Row.constant, Row.variable}
-use Rattle.guard.specs.Number.{Parsed.refused, Parser, ◌>>=◌, ◌>>◌, ask, return, unfold_signed, unsigned_of, value_width}
+use Rattle.guard.specs.Number.{Parser, ◌>>=◌, ◌>>◌, ask, return, unfold_signed, unsigned_of, value_width}
 use Rattle.guard.specs.Types.{Types, is_number, variants_of}
 use Rattle.rowparts.specs.ByTypes.{built_of, built_row, constant_row, field_of, field_row, variable_row, variant_term_by}
 use Rattle.tables.specs.Layout.{types_of}
