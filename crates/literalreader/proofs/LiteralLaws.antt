@@ -5,8 +5,8 @@ use Prim.Native.Nat.{ℕ, suc, ◌+◌, ◌-◌, ◌≤◌, ◌<◌}
 use native.Mathlib.Omega.{arith}
 use lib.ListN.{length, drop, set, length-append, length-drop}
 use Rattle.guard.specs.Guard.{Literal}
-use Rattle.guard.specs.File.{count, kind}
-use Rattle.guard.specs.Number.{Parsed, Parsed.accepted, Parsed.refused, Parser, ◌>>=◌, ◌>>◌, and_then, return, times}
+use Rattle.guard.specs.File.{count}
+use Rattle.guard.specs.Number.{Parsed, Parsed.accepted, Parsed.refused, Parser, times}
 use Rattle.guard.proofs.Repeats.{after, after_none, times-done, times-next, times_stop}
 use Rattle.tables.specs.Layout.{literal_kind, literal_other, literal_table, literal_term, pad}
 use Rattle.tables.proofs.Columns.{column-set}
