@@ -1,0 +1,12 @@
+-- `saturate` meets its contract. Invariant: what is due was added; the state falls with each round. Assumes nothing.
+use Rattle.guard.specs.Closure.{size}
+use Rattle.classes.specs.Held.{Held, state}
+use Rattle.passes.specs.Pass.{Steps}
+use Rattle.saturation.specs.Due.{all_due}
+use Rattle.saturation.proofs.saturate.Given as goal
+
+abbrev pub invariant-loop : goal.invariant-loop
+invariant-loop l = Steps (all_due l.shapes l.reads l.sorts l.fieldless) (state l.initial.classes l.initial.labels) (state l.classes l.labels) × Held l.classes
+
+abbrev pub decreases-loop : goal.decreases-loop
+decreases-loop l = size (state l.classes l.labels)
