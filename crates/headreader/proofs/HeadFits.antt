@@ -17,7 +17,7 @@ use Rattle.guard.specs.Types.{Types}
 use Rattle.guard.specs.WellFormed.{WellFormed}
 use Rattle.guard.proofs.Accepted.{head_guard, longest_head, reads-head, row_type, variants_in}
 use Rattle.guard.proofs.Reading.{Reads, reads-return}
-use Rattle.tables.specs.Layout.{row_table, type_table}
+use Rattle.tables.specs.Layout.{row_table}
 use Rattle.tables.specs.declared.RowTable.{RowTable}
 use Rattle.tables.specs.declared.TypeTable.{TypeTable}
 use Rattle.tables.proofs.Lookups.{row-type_anywhere, variants_at_lem}

@@ -20,7 +20,7 @@ use Rattle.datatypes.specs.Facts.{refused_at, type_facts}
 use Rattle.datatypes.specs.declared.TypeFacts.{TypeFacts}
 use Rattle.rowreader.specs.RowReader.{counted_rows, rows_at}
 use Rattle.rowreader.specs.declared.RowsRead.{RowsRead}
-use Rattle.rowreader.proofs.RowReaderLaws.{RowsFound, rows-found, rows-refused}
+use Rattle.rowreader.proofs.RowReaderLaws.{rows-found, rows-refused}
 use Rattle.rowreader.proofs.TidyRows.{tidy_counted}
 use Rattle.headreader.specs.Head.{Head, as_head, head_at, head_part, no_head, rows_behind}
 use Rattle.headreader.specs.declared.HeadRead.{HeadRead}
