@@ -101,6 +101,7 @@ module _ (t : Table) (ls : List Literal) (l : Literal) where
       all_of (given t (l ∷ ls)) (λ h m. ⊎_elim (λ p. says-kept (add_keeps s f) h (all_mem a h p)) (λ p. one h (subst (Memᴰ h) e p)) (fewer_given h m))
     where
       one : (h : Fact) → Memᴰ h (f ∷ []) → Says (add s f) h
+      one h (Memᴰ.tail x4) = elim x4 [ ]
       one h (Memᴰ.head q) = subst (Says (add s f)) (sym q) (add-says s f)
 
   reached-next : {room : ℕ} {s : State} (f : Fact) → of_literal l ≡ f ∷ [] → Reached t ls room s → Reached t (l ∷ ls) room (add s f)

@@ -14,7 +14,7 @@ use Rattle.guard.proofs.Agreement.{Agrees}
 use Rattle.guard.proofs.AnyOrder.{Reached}
 use Rattle.guard.proofs.ClosureState.{Says, Small}
 use Rattle.tables.specs.Layout.{flat, literal_table, row_table}
-use Rattle.classes.specs.Held.{Held, state}
+use Rattle.classes.specs.Held.{Held}
 use Rattle.arrays.specs.Arrays.{constants_of, fieldless_of, full_of, reads_of, shapes_of, sorts_of}
 use Rattle.arrays.specs.Slots.{ReadsFit, ShapesFit, SortsFit}
 use Rattle.labelled.specs.Covers.{Covers, has_mask}
