@@ -1,6 +1,6 @@
 -- Branches one after the other into their tables. Assumes nothing.
 use mathlib.Core.Path.{◌≡◌, refl, ap, sym, ◌∙◌}
-use mathlib.Core.List.{List, [], ◌∷◌, ◌++◌, map}
+use mathlib.Core.List.{List, [], ◌∷◌, ◌++◌}
 use Prim.Native.Nat.{ℕ, suc, ◌+◌, ◌-◌, ◌≤◌, ◌<◌}
 use native.Mathlib.Omega.{arith}
 use lib.ListN.{length, drop, set, length-append, length-drop}
@@ -17,7 +17,7 @@ use Rattle.numbers.proofs.Answers.{goes_on, stops}
 use Rattle.literalreader.specs.LiteralReader.{lines_at}
 use Rattle.literalreader.specs.declared.LinesRead.{LinesRead}
 use Rattle.branches.specs.Procedure.{branch_count, branch_limit}
-use Rattle.branchreader.specs.BranchReader.{as_branches, branch_tables, branches_at, branches_by, count_at, no_branches}
+use Rattle.branchreader.specs.BranchReader.{as_branches, branch_tables, branches_at, count_at, no_branches}
 use Rattle.branchreader.proofs.CountLaws.{count-says}
 use Rattle.branchreader.proofs.LinesAnswer.{lines-answer, lines-refused, lines-table, one}
 

@@ -2,17 +2,17 @@
 use mathlib.Core.Path.{◌≡◌, refl, ap, sym, ◌∙◌}
 use mathlib.Core.Bool.{Bool, true, false, ◌&&◌}
 use mathlib.Core.List.{List}
-use Prim.Native.Nat.{ℕ, ◌≤◌, ◌<◌}
+use Prim.Native.Nat.{ℕ, ◌≤◌}
 use native.Mathlib.Omega.{arith}
 use lib.Dec.{leb, leb-suc-suc, ltb}
-use lib.ListN.{length, drop}
-use borrow.Author.Tests.{le-leb, leb-true, lt-leb}
+use lib.ListN.{drop}
+use borrow.Author.Tests.{le-leb, leb-true}
 use Rattle.laws.proofs.Bools.{and_left, and_right}
-use Rattle.guard.specs.Number.{Parsed, Parsed.accepted, Parsed.refused, ◌>>=◌, ◌>>◌, and_then, ask, return, unsigned}
+use Rattle.guard.specs.Number.{Parsed, Parsed.accepted, Parsed.refused, ◌>>◌, and_then, ask, return, unsigned}
 use Rattle.numbers.specs.Reader.{Says, as_number, below, below_at, refusal}
 use Rattle.numbers.specs.declared.Number.{Number}
-use Rattle.numbers.proofs.Answers.{ask-no, ask-yes, below-says, goes_on, stops, tidy_good, tidy_says}
-use Rattle.numbers.proofs.Tidy.{Tidy, cursor-drop, tidy_asked, tidy_bind, tidy_return, tidy_unsigned}
+use Rattle.numbers.proofs.Answers.{ask-yes, below-says, goes_on, stops, tidy_good, tidy_says}
+use Rattle.numbers.proofs.Tidy.{Tidy, tidy_asked, tidy_bind, tidy_return, tidy_unsigned}
 use Rattle.branches.specs.Procedure.{branch_count, branch_limit}
 use Rattle.branchreader.specs.BranchReader.{count_at}
 

@@ -5,7 +5,7 @@ use Prim.Native.Nat.{ℕ}
 use lib.ListN.{drop}
 use Rattle.guard.specs.Guard.{Literal}
 use Rattle.guard.specs.Limits.{base}
-use Rattle.guard.specs.Number.{Parsed.accepted, Parsed.refused, Parser}
+use Rattle.guard.specs.Number.{Parsed.refused, Parser}
 use Rattle.tables.specs.Layout.{literal_table}
 use Rattle.numbers.proofs.Tidy.{Any, Answer, answer-refused, answered}
 use Rattle.literalkinds.specs.OneLiteral.{literal_by}

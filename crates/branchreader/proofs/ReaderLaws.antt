@@ -6,17 +6,17 @@ use Prim.Native.Nat.{ℕ, ◌≤◌}
 use native.Mathlib.Omega.{arith}
 use lib.ListN.{length, drop}
 use Rattle.laws.specs.All.{All}
-use Rattle.guard.specs.File.{count, literal}
+use Rattle.guard.specs.File.{literal}
 use Rattle.guard.specs.Grammar.{ended}
 use Rattle.guard.specs.Guard.{Literal, Row}
 use Rattle.guard.specs.Limits.{Supported, base}
 use Rattle.guard.specs.Number.{Parsed, Parsed.accepted, Parsed.refused, Parser, ◌>>=◌, ◌>>◌, and_then, return, times}
 use Rattle.guard.specs.Types.{Types}
-use Rattle.tables.specs.Layout.{literal_table, row_table, type_table}
+use Rattle.tables.specs.Layout.{row_table, type_table}
 use Rattle.tables.specs.declared.RowTable.{RowTable}
 use Rattle.tables.specs.declared.TypeTable.{TypeTable}
 use Rattle.tables.proofs.Lookups.{row-type_anywhere, variants_at_lem}
-use Rattle.numbers.proofs.Tidy.{Any, Tidy, tidy_bind, tidy_return, tidy_same, tidy_times, tidy_weaken}
+use Rattle.numbers.proofs.Tidy.{Any, Tidy, tidy_bind, tidy_return, tidy_same, tidy_times}
 use Rattle.headreader.specs.Head.{head_at, head_part}
 use Rattle.headreader.specs.declared.HeadRead.{HeadRead}
 use Rattle.headreader.proofs.HeadLaws.{HeadFound, head-found, head-refused, tidy_head}
