@@ -1,9 +1,9 @@
 -- The added line by columns is that of document 01: it is read as the one line of the last part of a file, behind a count of 1, of which
 -- `literalreader` has shown that. Assumes nothing.
-use mathlib.Core.Path.{◌≡◌, refl, ap, sym, subst, ◌∙◌}
+use mathlib.Core.Path.{◌≡◌, refl, ap, sym, ◌∙◌}
 use mathlib.Core.Bool.{Bool, true, false}
-use mathlib.Core.List.{List, [], ◌∷◌, ◌++◌, map}
-use Prim.Native.Nat.{ℕ, suc, ◌+◌, ◌≤◌, ◌<◌}
+use mathlib.Core.List.{List, [], ◌∷◌, ◌++◌}
+use Prim.Native.Nat.{ℕ, ◌+◌, ◌≤◌, ◌<◌}
 use native.Mathlib.Omega.{arith}
 use lib.Dec.{ltb}
 use lib.ListN.{length, drop, get_or, length-append, length-drop, set, get_or-eq_default}
@@ -15,7 +15,7 @@ use Rattle.guard.specs.Limits.{base}
 use Rattle.guard.specs.Number.{Parsed, Parsed.accepted, Parsed.refused, Parser, ◌>>=◌, ◌>>◌, and_then, ask, return}
 use Rattle.guard.specs.Types.{Types}
 use Rattle.guard.proofs.Accepted.{row_type}
-use Rattle.tables.specs.Layout.{literal_kind, literal_other, literal_table, literal_term, pad, row_table, type_table}
+use Rattle.tables.specs.Layout.{literal_kind, literal_other, literal_table, literal_term, row_table, type_table}
 use Rattle.tables.specs.declared.LiteralTable.{LiteralTable}
 use Rattle.tables.specs.declared.RowTable.{RowTable}
 use Rattle.tables.specs.declared.TypeTable.{TypeTable}
