@@ -15,7 +15,7 @@ use Rattle.laws.specs.Lists.{any}
 use Rattle.laws.proofs.Bools.{by_test}
 use Rattle.laws.proofs.Positions.{least}
 use Rattle.guard.specs.Closure.{State, builds_at, closure_of, label_of}
-use Rattle.guard.specs.Guard.{Guard, Literal, Literal.is}
+use Rattle.guard.specs.Guard.{Guard, Literal}
 use Rattle.guard.specs.Limits.{Limits, Supported, total_variant_limit}
 use Rattle.guard.specs.Node.{empty_label, inside_itself}
 use Rattle.guard.specs.Terms.{Table, Term, table_of, term_count}

@@ -1,7 +1,7 @@
 -- Unlike constants: the lowest class that holds two is the lowest term whose class does, since a class is named by its lowest member
 -- and its name is a term of the table. Assumes nothing.
 use mathlib.Core.Path.{◌≡◌, ap, sym, ◌∙◌, subst}
-use mathlib.Core.Bool.{Bool, true, false, not, false≢true, ◌&&◌}
+use mathlib.Core.Bool.{Bool, true, not, false≢true, ◌&&◌}
 use mathlib.Core.List.{List, Memᴰ}
 use Prim.Native.Nat.{ℕ, ◌≤◌, ◌<◌}
 use native.Mathlib.Omega.{arith}
@@ -34,7 +34,7 @@ use Rattle.constants.specs.Constants.{constant_term, constant_value, is_constant
 use Rattle.constants.proofs.ConstantSlots.{ConstantSlot, ConstantSlots, constant_slots}
 use Rattle.reasons.specs.Reasons.{constant_class, unlike, unlike_at, unlike_before}
 use Rattle.reasons.proofs.Constants.{unlike-yes}
-use Rattle.refutations.specs.Record.{Entry, claim, named}
+use Rattle.refutations.specs.Record.{Entry, claim}
 use Rattle.refutations.proofs.ClaimLaws.{of_term, term_of_lem}
 use Rattle.closings.proofs.TermClasses.{class_term}
 
