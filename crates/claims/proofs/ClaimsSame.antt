@@ -13,7 +13,7 @@ use Rattle.laws.specs.Lists.{any}
 use Rattle.laws.proofs.Bits.{bit_le}
 use Rattle.laws.proofs.Bools.{and_both, and_left, and_right, by_test}
 use Rattle.guard.specs.Closure.{State, builds_at, class_of, label_of}
-use Rattle.guard.specs.Guard.{Guard, Literal, Literal.equal, Literal.is}
+use Rattle.guard.specs.Guard.{Guard, Literal, Literal.equal}
 use Rattle.guard.specs.Limits.{Limits, Supported, total_variant_limit, variant_limit}
 use Rattle.guard.specs.Node.{broken, empty_label, holds_another, inside_itself, unlike_constants}
 use Rattle.guard.specs.Terms.{Table, Term, table_of, term_count}
