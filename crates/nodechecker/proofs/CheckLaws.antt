@@ -10,7 +10,7 @@ use lib.ListN.{length, drop, length-drop}
 use Rattle.laws.proofs.Lists.{length-nil}
 use Rattle.guard.specs.Closure.{Fact.within, State, add, closure_of}
 use Rattle.guard.specs.Guard.{Guard, Literal, Literal.is, Literal.isnt}
-use Rattle.guard.specs.Number.{Parsed, Parsed.accepted, Parsed.refused, Parser, ◌>>◌, and_then, ask}
+use Rattle.guard.specs.Number.{Parsed, Parsed.accepted, Parser, ◌>>◌, and_then, ask}
 use Rattle.guard.specs.Terms.{Table, table_of, term_count}
 use Rattle.guard.proofs.Agreement.{named-reached}
 use Rattle.guard.proofs.AnyOrder.{Reached, reached-small}
