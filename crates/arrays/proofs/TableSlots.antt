@@ -3,8 +3,7 @@
 use mathlib.Core.Path.{◌≡◌}
 use mathlib.Core.List.{List, Memᴰ}
 use Prim.Native.Nat.{ℕ, ◌^◌, ◌<◌, suc, ◌-◌, ◌≤◌}
-use Rattle.laws.specs.Bits.{bit}
-use Rattle.guard.specs.Closure.{every_variant, reads}
+use Rattle.guard.specs.Closure.{every_variant}
 use Rattle.guard.specs.Limits.{variant_limit}
 use Rattle.guard.specs.Terms.{Build, Read, Table, Term, as_build, fieldless}
 use Rattle.guard.specs.Types.{fields_of, variants_of}

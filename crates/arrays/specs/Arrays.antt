@@ -1,6 +1,6 @@
 -- A guard as the closure and the search need it: for each slot a few numbers side by side, so that a rule finds all that
 -- it looks at in one array. Assumes nothing: definitions.
-use Rattle.std.specs.Prelude.{List, [], ◌∷◌, ◌++◌, map, ℕ, suc, ◌+◌, ◌-◌, ◌^◌, length, get_or}
+use Rattle.std.specs.Prelude.{List, [], ◌∷◌, ◌++◌, map, ℕ, suc, ◌-◌, ◌^◌, length, get_or}
 use Rattle.std.proofs.Math.Option.{Option, none, some}
 use Rattle.laws.specs.Lists.{concat_map, from, sum}
 use Rattle.guard.specs.Closure.{every_variant}

@@ -12,7 +12,7 @@ use borrow.Author.Tests.{eq-eqb, eqb-true, ltb-false, ltb-true}
 use Rattle.laws.specs.All.{All}
 use Rattle.laws.proofs.Bools.{and_both, and_left, and_right, cond_ind}
 use Rattle.guard.specs.Closure.{Fact, Fact.same, constants, eq_z, pairwise}
-use Rattle.guard.specs.Guard.{Guard, Literal.equal}
+use Rattle.guard.specs.Guard.{Guard}
 use Rattle.guard.specs.Limits.{Limits, Supported, total_variant_limit}
 use Rattle.guard.specs.Terms.{Const, Table, table_of}
 use Rattle.guard.specs.WellFormed.{WellFormed}

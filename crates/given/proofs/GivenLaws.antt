@@ -14,7 +14,7 @@ use Rattle.laws.specs.Lists.{concat_map}
 use Rattle.laws.proofs.Bools.{by_test}
 use Rattle.laws.proofs.Lists.{all_append, all_left, all_of, all_right}
 use Rattle.guard.specs.Closure.{Fact, Fact.same, State, add, all_variants, class_of, constants, given, merge_unless, of_literal, one_variant, pairwise, rename}
-use Rattle.guard.specs.Guard.{Guard, Literal.equal, Literal.is}
+use Rattle.guard.specs.Guard.{Guard}
 use Rattle.guard.specs.Limits.{Limits, Supported, total_variant_limit}
 use Rattle.guard.specs.Terms.{table_of}
 use Rattle.guard.specs.WellFormed.{WellFormed}

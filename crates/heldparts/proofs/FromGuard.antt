@@ -1,13 +1,11 @@
 -- The tables of a guard that a reader took hold its parts. Assumes nothing.
 use mathlib.Core.Path.{refl}
-use mathlib.Core.List.{List, Memᴰ}
-use Prim.Native.Nat.{ℕ, ◌≤◌}
+use Prim.Native.Nat.{◌≤◌}
 use native.Mathlib.Omega.{arith}
 use lib.ListN.{length}
 use Rattle.laws.proofs.Lists.{all_of}
 use Rattle.guard.specs.Guard.{Guard}
 use Rattle.guard.specs.Limits.{Limits, Supported, total_variant_limit}
-use Rattle.guard.specs.Types.{fields_of}
 use Rattle.guard.specs.WellFormed.{WellFormed}
 use Rattle.tables.specs.Layout.{flat, literal_table, row_table, type_table}
 use Rattle.tables.proofs.Lookups.{flat-all}

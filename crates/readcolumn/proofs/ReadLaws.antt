@@ -11,7 +11,6 @@ use lib.ListN.{get_or, set}
 use borrow.Author.Tests.{lt-ltb, le-ltb, eq-eqb, ne_eqb}
 use Rattle.columns.proofs.Filled.{filled_skips, filled-written, written_same}
 use Rattle.columns.specs.Entries.{bit_of, filled, plus_one_if, written}
-use Rattle.guard.specs.Terms.{default_term}
 use Rattle.readcolumn.specs.Reads.{constant_entry, field_key, four_places, read_entry, read_place, row_read}
 
 -- stored one after the other

@@ -1,15 +1,14 @@
 -- The column of shapes a slot at a time: eight places are written, or stay 0. Assumes nothing.
-use mathlib.Core.Path.{◌≡◌, refl, ap, sym, ◌∙◌}
-use mathlib.Core.Bool.{Bool, true, false, cond}
+use mathlib.Core.Path.{◌≡◌, ap, sym, ◌∙◌}
+use mathlib.Core.Bool.{Bool, true, cond}
 use mathlib.Core.List.{List}
 use Prim.Native.Nat.{ℕ, ◌+◌, ◌*◌, ◌-◌, ◌/◌, ◌%◌, ◌≤◌, ◌<◌}
 use native.Mathlib.Omega.{arith}
-use lib.Dec.{eqb, ltb}
+use lib.Dec.{ltb}
 use lib.ListN.{get_or}
 use borrow.Author.Tests.{lt-ltb, le-ltb, eq-eqb, ne_eqb}
 use Rattle.columns.proofs.Filled.{filled_skips, filled-written, written_same}
 use Rattle.columns.specs.Entries.{filled, written}
-use Rattle.guard.specs.Terms.{default_term}
 use Rattle.rowshapes.proofs.ShapeLaws.{shape_places}
 use Rattle.rowshapes.specs.RowShapes.{arity_of, eight_places, kind_number, row_place, shape_place}
 use Rattle.shapecolumn.specs.Shapes.{default_part, default_place, made_place, shape_entry}

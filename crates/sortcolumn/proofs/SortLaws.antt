@@ -1,14 +1,14 @@
 -- The types of terms by their part of the column: rows, siblings, defaults, nothing. Assumes nothing.
-use mathlib.Core.Path.{◌≡◌, refl, ap, sym, ◌∙◌}
-use mathlib.Core.Bool.{Bool, true, false, cond}
+use mathlib.Core.Path.{◌≡◌, refl, sym, ◌∙◌}
+use mathlib.Core.Bool.{Bool, true, false}
 use mathlib.Core.List.{List}
-use Prim.Native.Nat.{ℕ, ◌+◌, ◌-◌, ◌≤◌, ◌<◌}
+use Prim.Native.Nat.{ℕ, ◌-◌, ◌≤◌, ◌<◌}
 use native.Mathlib.Omega.{arith}
 use lib.Dec.{ltb}
 use lib.ListN.{get_or}
 use borrow.Author.Tests.{lt-ltb, le-ltb}
 use Rattle.columns.proofs.EntryLaws.{no-type}
-use Rattle.columns.specs.Entries.{plus_one, plus_one_if}
+use Rattle.columns.specs.Entries.{plus_one_if}
 use Rattle.sortcolumn.specs.Sorts.{sort_entry}
 
 module _ (many count : ℕ) (types siblings : List ℕ) (x : ℕ) where

@@ -1,6 +1,5 @@
 -- `join_constants` meets its contract. Invariant: the constants so far are met. Assumes nothing.
 use mathlib.Core.Path.{refl}
-use Prim.Native.Nat.{◌-◌}
 use native.Mathlib.Omega.{arith}
 use Rattle.classes.specs.Held.{state}
 use Rattle.constantfacts.specs.Equal.{constants_at, constants_by}

@@ -1,5 +1,4 @@
 -- `clear` meets its contract. Invariant: the terms so far are cleared. Assumes nothing.
-use Prim.Native.Nat.{◌-◌}
 use mathlib.Core.Path.{refl}
 use native.Mathlib.Omega.{arith}
 use Rattle.guard.specs.Closure.{every_variant}

@@ -1,6 +1,5 @@
 -- `label_builds` meets its contract. Invariant: the shapes so far are labelled. Assumes nothing.
 use mathlib.Core.Path.{refl}
-use Prim.Native.Nat.{◌-◌}
 use native.Mathlib.Omega.{arith}
 use Rattle.classes.specs.Held.{state}
 use Rattle.labelfacts.specs.Labels.{one_variant_at, one_variant_by}

@@ -1,6 +1,5 @@
 -- `label_terms` meets its contract. Invariant: the terms so far are labelled. Assumes nothing.
 use mathlib.Core.Path.{refl}
-use Prim.Native.Nat.{◌-◌}
 use native.Mathlib.Omega.{arith}
 use Rattle.classes.specs.Held.{state}
 use Rattle.labelfacts.specs.Labels.{all_variants_at, all_variants_by}

@@ -1,6 +1,5 @@
 -- `assert_literals` meets its contract. Invariant: the literals so far are asserted. Assumes nothing.
 use mathlib.Core.Path.{refl}
-use Prim.Native.Nat.{◌-◌}
 use native.Mathlib.Omega.{arith}
 use Rattle.classes.specs.Held.{state}
 use Rattle.literalfacts.specs.Literals.{literal_at, literals_by}

@@ -1,5 +1,4 @@
 -- `constant_entry` meets its contract: a row's constant, or a default's. Assumes nothing.
-use Prim.Native.Nat.{◌-◌}
 use Rattle.readcolumn.proofs.ReadLaws.{default-constant, row-constant}
 use Rattle.readcolumn.proofs.constant_entry.Goals as goal
 

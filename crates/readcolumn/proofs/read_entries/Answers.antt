@@ -1,6 +1,6 @@
 -- `read_entries` meets its contract. Invariant: the rows so far are those of the column. Assumes nothing.
 use mathlib.Core.Path.{sym, ◌∙◌}
-use Prim.Native.Nat.{◌*◌, ◌-◌}
+use Prim.Native.Nat.{◌*◌}
 use native.Mathlib.Omega.{arith}
 use Rattle.columns.proofs.Filled.{filled_end, filled_none}
 use Rattle.readcolumn.specs.Reads.{read_entry}

@@ -1,6 +1,5 @@
 -- `next_variable` meets its contract. Invariant: no row passed is a variable. Assumes nothing.
 use mathlib.Core.Path.{refl, ◌∙◌}
-use Prim.Native.Nat.{◌-◌}
 use native.Mathlib.Omega.{arith}
 use Rattle.renaming.proofs.Variables.{variables-past}
 use Rattle.renaming.proofs.next_variable.Goals as goal

@@ -1,6 +1,6 @@
 -- `shape_entries` meets its contract. Invariant: the slots so far are those of the column. Assumes nothing.
 use mathlib.Core.Path.{◌∙◌}
-use Prim.Native.Nat.{◌+◌, ◌*◌, ◌-◌}
+use Prim.Native.Nat.{◌+◌, ◌*◌}
 use native.Mathlib.Omega.{arith}
 use Rattle.columns.proofs.Filled.{filled_end, filled_none}
 use Rattle.shapecolumn.specs.Shapes.{shape_entry}

@@ -1,7 +1,7 @@
 -- `sort_entries` meets its contract. Invariant: the places so far are those of the column. Assumes nothing.
 use Rattle.siblings.specs.Siblings.{sort_entries, sort_entry}
 use Rattle.columns.proofs.Filled.{filled_end, filled_next, filled_none}
-use Prim.Native.Nat.{◌*◌, ◌-◌, ◌/◌, ◌%◌}
+use Prim.Native.Nat.{◌*◌, ◌/◌, ◌%◌}
 use native.Mathlib.Omega.{arith}
 use Rattle.siblings.proofs.sort_entries.Goals as goal
 

@@ -1,5 +1,4 @@
 -- `fieldless_entries` meets its contract. Invariant: the places so far are those of the column. Assumes nothing.
-use Prim.Native.Nat.{◌-◌}
 use native.Mathlib.Omega.{arith}
 use Rattle.columns.proofs.Filled.{filled_end, filled_next, filled_none}
 use Rattle.sortcolumn.specs.Sorts.{fieldless_entry}

@@ -1,6 +1,5 @@
 -- `fieldless_mask` meets its contract. Invariant: the mask is that of the variants so far. Assumes nothing.
 use mathlib.Core.Path.{◌≡◌, ap, ◌∙◌}
-use Prim.Native.Nat.{◌-◌}
 use native.Mathlib.Omega.{arith}
 use Rattle.sortcolumn.specs.Sorts.{fieldless_mask}
 use Rattle.sortcolumn.proofs.MaskLaws.{mask_fits, mask_next, mask_none}

@@ -1,11 +1,10 @@
 -- `sort_entries` meets its contract. Invariant: the places so far are those of the column. Assumes nothing.
 use mathlib.Core.Path.{◌≡◌, ◌∙◌}
-use Prim.Native.Nat.{◌+◌, ◌-◌}
+use Prim.Native.Nat.{◌+◌}
 use native.Mathlib.Omega.{arith}
 use Rattle.columns.proofs.Filled.{filled_end, filled_next, filled_none, filled_skips}
 use Rattle.sortcolumn.specs.Sorts.{sort_entry}
 use Rattle.sortcolumn.proofs.SortLaws.{default-sort, no-sort, row-sort, sibling_sort}
-use borrow.Author.Rules.{rules}
 use Rattle.sortcolumn.proofs.sort_entries.Goals as goal
 
 pub loop-x-init : goal.loop-x-init
