@@ -1,8 +1,6 @@
 -- `find_row` meets its contract. Invariant: no row before has the numbers. Assumes nothing.
 use mathlib.Core.List.{[], ◌∷◌}
 use Prim.Native.Nat.{◌-◌, ◌≤◌}
-use mir.Syntax.{w32}
-use mir.Val.{to_z}
 use Rattle.rowstore.proofs.Numbers.{NotBelow}
 use Rattle.rowstore.proofs.find_row.Given as goal
 
