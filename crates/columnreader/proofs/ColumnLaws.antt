@@ -2,7 +2,6 @@
 use mathlib.Core.Path.{◌≡◌, refl, ap, ap₂, sym, subst, ◌∙◌}
 use mathlib.Core.List.{List, [], ◌∷◌, ◌++◌}
 use Prim.Native.Nat.{ℕ, zero, suc, ◌+◌, ◌-◌, ◌*◌, ◌≤◌, ◌<◌}
-use native.Mathlib.Numerals.{add-one}
 use native.Mathlib.Omega.{arith}
 use lib.Dec.{eqb}
 use lib.ListN.{drop, get_or, length, length-append, length-set, set}
@@ -14,7 +13,7 @@ use Rattle.guard.specs.Types.{Types}
 use Rattle.numbers.specs.Reader.{Says}
 use Rattle.numbers.proofs.Answers.{goes_on, stops}
 use Rattle.columnfile.specs.Columns.{cell, column_from, columns, columns_from, number_in}
-use Rattle.columnreader.specs.Cells.{Holds, ReadsColumn, ReadsColumns, next_column}
+use Rattle.columnreader.specs.Cells.{Holds, ReadsColumn, next_column}
 use Rattle.columnreader.specs.declared.Cursor.{Cursor}
 
 -- ---- numbers in columns

@@ -4,13 +4,13 @@ use mathlib.Core.List.{List, [], ◌∷◌, map}
 use Prim.Native.Nat.{ℕ, zero, suc, ◌+◌, ◌*◌, ◌≤◌, ◌<◌}
 use native.Mathlib.Nat.{zero-add}
 use native.Mathlib.Omega.{arith}
-use lib.ListN.{get_or, length, length-map, length-take, take}
+use lib.ListN.{get_or, length, length-map, length-take}
 use lib.Seq.{ext_get_or, get_or-take}
 use Rattle.laws.specs.Lists.{concat_map, from}
 use Rattle.laws.proofs.Lists.{map-from-at, map-from-length}
 use Rattle.guard.specs.Types.{Types, fields_of}
 use Rattle.tables.proofs.Lookups.{map_at}
-use Rattle.columnfile.specs.Columns.{bytes_for, number_in, restored_row, width}
+use Rattle.columnfile.specs.Columns.{number_in, restored_row, width}
 use Rattle.columnreader.specs.Cells.{Holds}
 
 pub width_few : (ts : Types) → ((t v : ℕ) → length (fields_of ts t v) ≤ 3) → (k s v : ℕ) → width ts k s v ≤ 6

@@ -1,6 +1,5 @@
 -- `read_column`: the numbers of the rows before i are read, and stand in the cells. Assumes nothing.
 use mathlib.Core.Path.{refl}
-use Prim.Native.Nat.{◌-◌, ◌<◌}
 use native.Mathlib.Omega.{arith}
 use lib.ListN.{length-set}
 use Rattle.tables.specs.Layout.{types_of}

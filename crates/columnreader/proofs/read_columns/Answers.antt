@@ -1,7 +1,6 @@
 -- `read_columns`: the columns before j are read, and stand in the cells. Assumes nothing.
 use mathlib.Core.Path.{refl, ◌∙◌}
 use mathlib.Core.List.{[]}
-use Prim.Native.Nat.{◌-◌}
 use native.Mathlib.Omega.{arith}
 use Rattle.columnreader.proofs.ColumnLaws.{columns-done, columns-next, columns_stop}
 use Rattle.columnreader.proofs.read_columns.Goals as goal

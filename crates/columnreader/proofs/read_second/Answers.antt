@@ -2,7 +2,7 @@
 use mathlib.Core.Path.{◌≡◌, ap, sym, ◌∙◌}
 use mathlib.Core.List.{List}
 use Prim.Native.Nat.{ℕ}
-use lib.ListN.{drop, length}
+use lib.ListN.{drop}
 use Rattle.guard.specs.File.{name}
 use Rattle.tables.specs.Layout.{types_of}
 use Rattle.tables.specs.declared.TypeTable.{TypeTable}

@@ -1,7 +1,7 @@
 -- `put_rows`: N and the rows before i stand in the buffer. Assumes nothing.
 use mathlib.Core.Path.{◌≡◌, ap, sym}
 use mathlib.Core.Bool.{true}
-use Prim.Native.Nat.{ℕ, ◌-◌, ◌≤◌, ◌<◌}
+use Prim.Native.Nat.{ℕ, ◌≤◌, ◌<◌}
 use native.Mathlib.Omega.{arith}
 use lib.ListN.{get_or, length}
 use borrow.Author.Tests.{not-false, not-true}

@@ -1,7 +1,7 @@
 -- `put_rows`: the rows before r stand in the buffer, where they aren't skipped. Assumes nothing.
 use mathlib.Core.Path.{◌≡◌, sym, subst}
 use mathlib.Core.List.{List}
-use Prim.Native.Nat.{ℕ, ◌+◌, ◌-◌}
+use Prim.Native.Nat.{ℕ, ◌+◌}
 use native.Mathlib.Omega.{arith}
 use borrow.Author.Tests.{not-false, not-true}
 use Rattle.rowterms.proofs.RowLaws.{some-place}
