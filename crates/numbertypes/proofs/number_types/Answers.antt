@@ -4,7 +4,6 @@ use native.Mathlib.Omega.{arith}
 use Rattle.numbertypes.specs.Asked.{zeroes}
 use Rattle.numbertypes.proofs.AskedLaws.{few-zeroes, none_more, one_more}
 use Rattle.numbertypes.proofs.number_types.Goals as goal
-use Rattle.numbertypes.proofs.number_types.Goals.{then-variants-t-eq0, else-variants-t-eq0}
 
 pub loop-t-init : goal.loop-t-init
 loop-t-init c = (omega arith, refl)
@@ -22,13 +21,8 @@ pub loop-t-smaller : goal.loop-t-smaller
 loop-t-smaller c = omega arith
 
 pub loop-t-preserved : goal.loop-t-preserved
-loop-t-preserved c = let vs = c.args.variants.now in (
-  omega arith,
-  elim c.if-variants-t-eq0.branch [
-    | then-variants-t-eq0 w ↦ omega (arith, w.numbers-is, c.loop-t.invariant.1, one_more vs c.loop-t.t w.if-variants-t-eq0.true)
-    | else-variants-t-eq0 w ↦ omega (arith, w.numbers-is, c.loop-t.invariant.1, none_more vs c.loop-t.t w.if-variants-t-eq0.false)
-  ],
-)
+loop-t-preserved c = let l = c.loop-t in
+    (omega arith, grind (arith, one_more c.args.variants.now l.t, none_more c.args.variants.now l.t, l.invariant.1))
 
 pub returns : goal.returns
 returns c = let all : c.loop-t.t ≡ c.args.many = omega arith in
