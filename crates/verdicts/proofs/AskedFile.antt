@@ -1,10 +1,10 @@
 -- The file of a guard in tables: it fits into the buffer, and what the desk answers to it is the verdict on the guard. Assumes nothing.
-use mathlib.Core.Path.{◌≡◌, refl, ap, sym, subst, ◌∙◌}
+use mathlib.Core.Path.{◌≡◌, ap, ◌∙◌}
 use mathlib.Core.Bool.{true}
-use mathlib.Core.List.{List, [], ◌++◌}
+use mathlib.Core.List.{List, []}
 use Prim.Native.Nat.{ℕ, ◌+◌, ◌≤◌}
 use native.Mathlib.Omega.{arith}
-use lib.ListN.{length, take, length-append}
+use lib.ListN.{length, take}
 use lib.Seq.{take_at}
 use borrow.Author.Tests.{le-leb}
 use Rattle.guard.specs.Answer.{after_questions, outcome, questions}
@@ -21,7 +21,6 @@ use Rattle.bytebuffer.specs.declared.End.{End}
 use Rattle.bytebuffer.specs.Puts.{Puts}
 use Rattle.guardwriter.specs.GuardBytes.{AskedOf, wide}
 use Rattle.guardwriter.proofs.AskedLaws.{wide-supported}
-use Rattle.guard.specs.Limits.{base}
 use Rattle.verdictcodes.specs.Codes.{code_for, code_of, with_more}
 
 module _ {types : TypeTable} {rows : RowTable} {first second : LiteralTable} {g : Guard} {more : List Literal} (k : AskedOf types rows first second g more) where
