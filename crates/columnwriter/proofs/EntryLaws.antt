@@ -4,9 +4,9 @@ use mathlib.Core.Bool.{true, false}
 use mathlib.Core.List.{List, [], ◌∷◌, map}
 use Prim.Native.Nat.{ℕ, zero, suc, ◌+◌, ◌-◌, ◌*◌, ◌≤◌, ◌<◌}
 use native.Mathlib.Omega.{arith}
-use lib.IntN.{ℤ, pos}
+use lib.IntN.{pos}
 use lib.ListN.{length, get_or, take, drop}
-use Rattle.guard.specs.Guard.{Row, Row.built, Row.constant, Row.field, Row.variable, row_at, type_at, type_of}
+use Rattle.guard.specs.Guard.{Row, Row.built, Row.constant, Row.field, Row.variable, row_at, type_of}
 use Rattle.guard.specs.Number.{fold_signed}
 use Rattle.guard.specs.Types.{Types}
 use Rattle.tables.specs.declared.RowTable.{RowTable}
@@ -14,7 +14,7 @@ use Rattle.tables.specs.declared.TypeTable.{TypeTable}
 use Rattle.tables.specs.Layout.{row_kind, row_parts, row_value, row_variant}
 use Rattle.serialize.specs.Tokens.{Token.plain, unsigned_of}
 use Rattle.rowterms.specs.Rows.{BuiltRow, PartCount}
-use Rattle.rowterms.proofs.RowLaws.{Entry, entry}
+use Rattle.rowterms.proofs.RowLaws.{entry}
 use Rattle.columnfile.specs.Columns as columns
 use Rattle.columnwriter.specs.Entries.{HasRow, IsEntry}
 

@@ -1,13 +1,11 @@
 -- The parts of a stored file, put one behind the other. Assumes nothing.
-use mathlib.Core.Path.{◌≡◌, refl, ap, ap₂, sym, ◌∙◌}
+use mathlib.Core.Path.{◌≡◌, ap, ap₂, sym, ◌∙◌}
 use mathlib.Core.List.{List, [], ◌∷◌, ◌++◌, append_assoc, map}
 use Prim.Native.Nat.{ℕ, ◌<◌}
 use native.Mathlib.Omega.{arith}
 use lib.ListN.{length}
 use Rattle.laws.specs.Lists.{concat_map, from}
 use Rattle.guard.specs.Guard.{Guard}
-use Rattle.tables.specs.Layout.{row_table}
-use Rattle.tables.specs.declared.RowTable.{RowTable}
 use Rattle.reader.specs.declared.Tables.{Tables}
 use Rattle.encoding.specs.Encoding.{encoded}
 use Rattle.encoding.proofs.ReadBack.{one_byte}

@@ -20,7 +20,6 @@ use Rattle.serialize.proofs.OneNumber.{taken-numbers}
 use Rattle.serialize.proofs.Theorems.{read_as_list, same_bytes_lem, several_refused}
 use Rattle.bytebuffer.proofs.FillLaws.{filled_with}
 use Rattle.serialize.proofs.Questions.{list_question}
-use Rattle.filewriter.specs.declared.FileWritten.{FileWritten}
 use Rattle.filewriter.specs.Writer.{answer_to, left_by}
 use Rattle.filewriter.proofs.Answers.{by_length, bytes_back, few-told, room-told}
 

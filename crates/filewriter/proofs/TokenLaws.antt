@@ -18,7 +18,7 @@ use Rattle.serialize.specs.Tokens.{Fits, Token, Token.plain, Token.value, listed
 use Rattle.serialize.proofs.Copying.{concat_map-append}
 use Rattle.bytebuffer.specs.declared.End.{End}
 use Rattle.bytebuffer.specs.Puts.{Puts}
-use Rattle.bytebuffer.proofs.PutLaws.{and_then, nothing, same_bytes_lem, still_full}
+use Rattle.bytebuffer.proofs.PutLaws.{and_then, same_bytes_lem, still_full}
 use Rattle.valuemarks.specs.Marks.{mark_of, room}
 use Rattle.filewriter.specs.Marking.{Marked, NumberMarked, WrittenAs}
 

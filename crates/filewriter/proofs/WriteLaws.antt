@@ -1,11 +1,10 @@
 -- A list that is taken: its guard, its tokens, and the tables that its reader gave. Assumes nothing.
 use mathlib.Core.Path.{◌≡◌, refl, ap, ap₂, sym, subst, ◌∙◌}
-use mathlib.Core.Bool.{Bool, true, false, cond}
 use mathlib.Core.List.{List, [], ◌∷◌, map}
-use Prim.Native.Nat.{ℕ, ◌+◌, ◌*◌, ◌-◌, ◌≤◌}
+use Prim.Native.Nat.{ℕ, ◌+◌, ◌*◌, ◌≤◌}
 use native.Mathlib.Omega.{arith}
 use lib.IntN.{ℤ}
-use lib.ListN.{length, replicate, length-append, length-map}
+use lib.ListN.{length, length-append, length-map}
 use Rattle.laws.specs.Lists.{concat_map}
 use Rattle.guard.specs.Guard.{Guard, Literal, Literal.equal, Literal.is, Literal.isnt, Literal.unequal, Row, Row.built, Row.constant, Row.field, Row.variable, type_of}
 use Rattle.guard.specs.Limits.{base}
@@ -22,13 +21,11 @@ use Rattle.serialize.specs.Tokens.{Token, Token.plain, Token.value, bytes_of, gu
 use Rattle.serialize.proofs.Theorems.{read_as_list, tokens-fit}
 use Rattle.bytebuffer.specs.declared.End.{End}
 use Rattle.bytebuffer.specs.Puts.{Puts}
-use Rattle.bytebuffer.proofs.FillLaws.{ends_there, fills, fits-room, outgrows}
 use Rattle.listreader.specs.ListReader.{ReadsList, valueless, valueless_row, valueless_rows}
 use Rattle.serialize.proofs.Questions.{list_question}
 use Rattle.valuemarks.specs.Marks.{Listed, marks_of, room, until_lines}
 use Rattle.valuemarks.proofs.Midway.{all-length, lines}
 use Rattle.filewriter.specs.Marking.{Marked}
-use Rattle.filewriter.specs.Writer.{answer_to, left_by}
 use Rattle.filewriter.proofs.TokenLaws.{bytes}
 
 -- ---- refused lists

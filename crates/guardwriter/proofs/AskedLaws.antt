@@ -1,17 +1,17 @@
 -- Tables that hold a guard and lines behind its own hold their parts, and the bytes of the guard are those of the parts. Assumes nothing.
-use mathlib.Core.Path.{◌≡◌, refl, ap, ap₂, sym, subst, ◌∙◌}
+use mathlib.Core.Path.{◌≡◌, ap, ap₂, sym, subst, ◌∙◌}
 use mathlib.Core.List.Memᴰ
-use mathlib.Core.List.{List, [], ◌∷◌, ◌++◌, map, Memᴰ}
+use mathlib.Core.List.{List, [], ◌∷◌, ◌++◌, map}
 use Prim.Native.Nat.{ℕ, ◌+◌, ◌≤◌, ◌<◌}
 use native.Mathlib.Omega.{arith}
 use lib.ListN.{length, length-append, replicate}
 use Rattle.laws.specs.All.{All}
 use Rattle.laws.specs.Lists.{from}
 use Rattle.laws.proofs.Lists.{all_of}
-use Rattle.guard.specs.Guard.{Guard, Literal, Row}
-use Rattle.guard.specs.Limits.{Supported, base}
+use Rattle.guard.specs.Guard.{Guard, Literal}
+use Rattle.guard.specs.Limits.{Supported}
 use Rattle.guard.specs.WellFormed.{LiteralFits}
-use Rattle.tables.specs.Layout.{literal_table, row_table, type_table}
+use Rattle.tables.specs.Layout.{literal_table}
 use Rattle.tables.specs.declared.LiteralTable.{LiteralTable}
 use Rattle.tables.specs.declared.RowTable.{RowTable}
 use Rattle.tables.specs.declared.TypeTable.{TypeTable}
@@ -28,7 +28,7 @@ use Rattle.mergewriter.specs.Merging.{all_literals, all_rows}
 use Rattle.mergewriter.proofs.MergedBytes.{literals-both, literals_bytes, rows_bytes}
 use Rattle.mergewriter.proofs.ThreePuts.{Parts}
 use Rattle.verdictcodes.specs.Codes.{with_more}
-use Rattle.guardwriter.specs.GuardBytes.{Askable, AskedOf, wide}
+use Rattle.guardwriter.specs.GuardBytes.{AskedOf, wide}
 
 pub wide-supported : Supported wide
 wide-supported = record { types = omega arith; terms = omega arith; lines = omega arith }

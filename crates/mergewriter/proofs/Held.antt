@@ -7,7 +7,7 @@ use native.Mathlib.Omega.{arith}
 use lib.ListN.{length}
 use Rattle.laws.specs.Lists.{from}
 use Rattle.guard.specs.File.{file}
-use Rattle.guard.specs.Guard.{Guard, Literal, Row}
+use Rattle.guard.specs.Guard.{Guard}
 use Rattle.guard.specs.Limits.{base}
 use Rattle.guard.specs.Number.{Parsed.accepted}
 use Rattle.guard.specs.Types.{Types}

@@ -1,7 +1,7 @@
 -- The bytes of a merged guard are those of the parts that are put one behind the other. Assumes nothing.
 use mathlib.Core.Path.{◌≡◌, refl, ap, ap₂, sym, ◌∙◌}
-use mathlib.Core.List.{List, [], ◌∷◌, ◌++◌, append_assoc, append-nil, map}
-use Prim.Native.Nat.{ℕ, ◌+◌, ◌≤◌, ◌<◌}
+use mathlib.Core.List.{List, [], ◌∷◌, ◌++◌, map}
+use Prim.Native.Nat.{ℕ, ◌+◌, ◌≤◌}
 use native.Mathlib.Omega.{arith}
 use lib.ListN.{length, length-append, length-map, replicate}
 use Rattle.laws.specs.Lists.{concat_map, from}
@@ -16,7 +16,7 @@ use Rattle.merged.proofs.Renaming.{keep_all, own_literals, own_rows}
 use Rattle.renaming.specs.declared.Names.{Names}
 use Rattle.renaming.specs.Names.{AreNames}
 use Rattle.renaming.proofs.Padded.{padded-literals, padded-rows}
-use Rattle.mergewriter.specs.Merging.{BothOf, TablesOf, all_literals, all_rows}
+use Rattle.mergewriter.specs.Merging.{BothOf, all_literals, all_rows}
 use Rattle.mergewriter.proofs.ThreePuts.{Parts}
 use Rattle.mergewriter.proofs.Held.{lines_are, literals-held, rows-held}
 

@@ -23,7 +23,7 @@ use Rattle.literalreader.specs.LiteralReader.{EachBelow, as_literals, literals_a
 use Rattle.literalreader.specs.declared.LiteralsRead.{LiteralsRead}
 use Rattle.literalreader.proofs.LiteralReaderLaws.{literals-are}
 use Rattle.literalreader.proofs.TidyLiterals.{tidy_literals}
-use Rattle.restore.specs.Restoring.{Asks, TypesTaken, after_rows, asked_of}
+use Rattle.restore.specs.Restoring.{TypesTaken, after_rows, asked_of}
 use Rattle.restore.proofs.TypeLaws.{few-variants, variant_fits_lem}
 
 many-rows : (ts : Types) (rs : List Row) → (row_table ts rs).many ≡ length rs

@@ -1,5 +1,5 @@
 -- How large the numbers are that columns are read to. Assumes nothing.
-use mathlib.Core.Path.{◌≡◌, refl, ap, sym, subst, ◌∙◌}
+use mathlib.Core.Path.{◌≡◌, refl, sym, subst}
 use mathlib.Core.Bool.{Bool, true, false, cond, not}
 use mathlib.Core.List.{List, [], ◌∷◌, ◌++◌}
 use Prim.Native.Nat.{ℕ, zero, suc, ◌+◌, ◌≤◌, ◌<◌}
@@ -9,7 +9,7 @@ use lib.ListN.{get_or, length, length-append}
 use lib.Seq.{get_or-append_seam}
 use borrow.Author.Tests.{eqb-false, eqb-true, ltb-false, ltb-true}
 use Rattle.laws.proofs.Bools.{by_test}
-use Rattle.guard.specs.File.{kind, name}
+use Rattle.guard.specs.File.{name}
 use Rattle.guard.specs.Number.{Parsed, Parsed.accepted, Parser, Width, ◌>>=◌, ◌>>◌, ask, return, unsigned, unsigned_of, value_width, width32}
 use Rattle.guard.specs.Types.{Types, is_number}
 use Rattle.guard.proofs.Reading.{Reads, reads-unsigned_of}

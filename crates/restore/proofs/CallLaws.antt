@@ -2,7 +2,7 @@
 use mathlib.Core.Path.{◌≡◌, refl, ap, sym, ◌∙◌}
 use mathlib.Core.List.{List, [], ◌++◌}
 use Prim.Native.Nat.{ℕ, zero, suc, ◌+◌, ◌*◌}
-use lib.ListN.{drop, get_or, length, length-replicate, replicate}
+use lib.ListN.{drop, get_or, length-replicate, replicate}
 use Rattle.guard.specs.File.{file}
 use Rattle.guard.specs.Limits.{base}
 use Rattle.guard.specs.Number.{Parsed.accepted, Parsed.refused, and_then, return}

@@ -1,5 +1,5 @@
 -- The restored file: what is asked of it, its bytes, and how many its rows have. Assumes nothing.
-use mathlib.Core.Path.{◌≡◌, refl, ap, ap₂, sym, subst, ◌∙◌}
+use mathlib.Core.Path.{◌≡◌, refl, ap, sym, subst, ◌∙◌}
 use mathlib.Core.Bool.{Bool, true, false, cond}
 use mathlib.Core.List.{List, [], ◌∷◌, ◌++◌, append_assoc, append-nil, map}
 use Prim.Native.Nat.{ℕ, zero, suc, ◌+◌, ◌*◌, ◌/◌, ◌%◌, ◌≤◌, ◌<◌}
@@ -22,14 +22,13 @@ use Rattle.encoding.specs.Encoding.{encoded, encoded_value, groups_of}
 use Rattle.serialize.specs.Tokens.{Token, Token.plain, Token.value, bytes_of, token_bytes, type_tokens}
 use Rattle.serialize.proofs.Theorems.{file-numbers}
 use Rattle.merged.specs.Merge.{type_part}
-use Rattle.typereader.specs.TypeReader.{types_part}
 use Rattle.rowreader.specs.RowReader.{counted_rows}
 use Rattle.headreader.specs.Head.{Head, rows_behind}
 use Rattle.reader.proofs.FileParts.{after_head, file-parts}
 use Rattle.columnfile.specs.Columns.{bytes_for, number_in, restored_row, restored_rows, width}
 use Rattle.columnfile.proofs.Inverse.{count-back}
 use Rattle.columnfile.proofs.Settles.{Settles, Settles.stops, Settles.takes, settles_after, settles_same}
-use Rattle.columnfile.proofs.SettledRows.{Shaped, Shaped.shaped, numbers, settles_rows}
+use Rattle.columnfile.proofs.SettledRows.{Shaped, Shaped.shaped, settles_rows}
 use Rattle.restore.specs.Restoring.{Restored, after_rows, asked_of, head_of}
 use Rattle.restore.proofs.TypeLaws.{types-back, variant_fits_lem}
 

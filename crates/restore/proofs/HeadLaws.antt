@@ -1,10 +1,10 @@
 -- What the reads of the types part, their facts and N say of the head of a stored file. Assumes nothing.
 use mathlib.Core.Path.{◌≡◌, refl, ap, sym, ◌∙◌}
 use mathlib.Core.Bool.{Bool, true, false, cond}
-use mathlib.Core.List.{List, ◌++◌}
-use Prim.Native.Nat.{ℕ, suc, ◌≤◌, ◌<◌}
+use mathlib.Core.List.{List}
+use Prim.Native.Nat.{ℕ}
 use native.Mathlib.Omega.{arith}
-use lib.ListN.{drop, length}
+use lib.ListN.{drop}
 use Rattle.guard.specs.File.{count, types}
 use Rattle.guard.specs.Limits.{base}
 use Rattle.guard.specs.Number.{Parsed, Parsed.accepted, Parsed.refused, Parser, ◌>>=◌, ◌>>◌, and_then, ask, return}
@@ -20,7 +20,7 @@ use Rattle.typereader.specs.TypeReader.{types_at, types_part}
 use Rattle.typereader.specs.declared.TypesRead.{TypesRead}
 use Rattle.typereader.proofs.TypeReaderLaws.{TypesFound, types-found, types-refused}
 use Rattle.columnfile.specs.Columns.{columns, restored_head}
-use Rattle.restore.specs.Restoring.{HeadSays, HeadTaken, TypesTaken, head_of}
+use Rattle.restore.specs.Restoring.{HeadSays, TypesTaken, head_of}
 use Rattle.restore.specs.declared.Head.{Head}
 
 abbrev after_count : Types → ℕ → Parser (List ℕ)

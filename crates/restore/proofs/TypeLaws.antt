@@ -1,20 +1,16 @@
 -- What types that were read are good for. Assumes nothing.
-use mathlib.Core.Path.{◌≡◌, refl, ap, sym, subst, ◌∙◌}
-use mathlib.Core.List.{List, [], ◌∷◌, ◌++◌, append_assoc}
+use mathlib.Core.List.{List}
 use Prim.Native.Nat.{ℕ, zero, suc, ◌≤◌, ◌<◌}
 use native.Mathlib.Omega.{arith}
 use lib.ListN.{get_or, length}
 use Rattle.laws.specs.All.{All, All.more, All.none}
 use Rattle.laws.specs.Lists.{concat_map}
 use Rattle.guard.specs.File.{count, types}
-use Rattle.guard.specs.Limits.{field_limit, total_variant_limit, variant_limit}
-use Rattle.guard.specs.Number.{Parsed.accepted, and_then}
-use Rattle.guard.specs.Types.{Types, Variant, fields_of, variants_of}
-use Rattle.tables.specs.Layout.{flat, type_table}
+use Rattle.guard.specs.Limits.{field_limit, variant_limit}
+use Rattle.guard.specs.Types.{Types, fields_of, variants_of}
 use Rattle.tables.specs.declared.TypeTable.{TypeTable}
 use Rattle.tables.proofs.Lookups.{flat-all}
-use Rattle.encoding.specs.Encoding.{encoded}
-use Rattle.serialize.specs.Tokens.{token_bytes, type_tokens}
+use Rattle.serialize.specs.Tokens.{type_tokens}
 use Rattle.serialize.proofs.TakenFile.{takes_types}
 use Rattle.serialize.proofs.Theorems.{as_bytes}
 use Rattle.heldparts.specs.Held.{HoldsTypes, VariantFits}

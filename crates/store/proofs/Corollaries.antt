@@ -1,16 +1,15 @@
 -- Request #111, of what `store` answers and leaves: as many bytes as the file has, so 585 suffice. Assumes nothing.
 use mathlib.Core.Path.{◌≡◌, refl, ap, ap₂, sym, ◌∙◌}
-use mathlib.Core.List.{List, [], ◌∷◌, ◌++◌, append_assoc, append-nil, map}
-use Prim.Native.Nat.{ℕ, zero, suc, ◌+◌, ◌≤◌, ◌<◌}
+use mathlib.Core.List.{List, [], ◌∷◌, ◌++◌, append_assoc, append-nil}
+use Prim.Native.Nat.{ℕ, suc, ◌+◌, ◌≤◌, ◌<◌}
 use native.Mathlib.Omega.{arith}
 use lib.ListN.{drop, length, length-append, take}
 use Rattle.laws.specs.Lists.{concat_map, from}
 use Rattle.guard.specs.File.{file}
-use Rattle.guard.specs.Guard.{Guard, Row, no_row, row_at}
+use Rattle.guard.specs.Guard.{Guard, Row, row_at}
 use Rattle.guard.specs.Limits.{base}
 use Rattle.guard.specs.Number.{Parsed.accepted}
-use Rattle.guard.specs.Types.{Types}
-use Rattle.guard.specs.WellFormed.{RowFits, WellFormed}
+use Rattle.guard.specs.WellFormed.{WellFormed}
 use Rattle.guard.proofs.Accepted.{accepted-total, accepted_well_formed}
 use Rattle.guard.proofs.Claims.{at-most_585, base-supported}
 use Rattle.encoding.specs.Encoding.{encoded}

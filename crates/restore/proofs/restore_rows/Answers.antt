@@ -6,7 +6,6 @@ use native.Mathlib.Omega.{arith}
 use lib.ListN.{drop, length, length-replicate, replicate, take}
 use borrow.Author.Tests.{not-false, not-true}
 use Rattle.laws.specs.All.{All}
-use Rattle.guard.specs.File.{file}
 use Rattle.guard.specs.Guard.{Guard}
 use Rattle.guard.specs.Number.{Parsed.accepted}
 use Rattle.guard.specs.Types.{Types}
