@@ -1,18 +1,18 @@
 -- The masks of a row, variant by variant, and the variants that a row has by the tables. Assumes nothing.
-use mathlib.Core.Path.{◌≡◌, refl, ap, sym, ◌∙◌}
+use mathlib.Core.Path.{◌≡◌, ap, sym, ◌∙◌}
 use mathlib.Core.Bool.{Bool, true, false, cond, not, ◌&&◌}
-use mathlib.Core.List.{List, [], ◌∷◌, ◌++◌}
-use Prim.Native.Nat.{ℕ, suc, ◌+◌, ◌*◌, ◌^◌, ◌≤◌, ◌<◌}
+use mathlib.Core.List.{[], ◌∷◌}
+use Prim.Native.Nat.{ℕ, ◌+◌, ◌^◌, ◌≤◌, ◌<◌}
 use native.Mathlib.Omega.{arith}
 use native.Mathlib.Numerals.{add-one}
-use lib.Dec.{eqb, ltb}
+use lib.Dec.{ltb}
 use lib.ListN.{length, get_or}
 use lib.Pow.{pow_mono}
 use borrow.Author.Tests.{le-ltb, lt-ltb}
 use Rattle.guard.specs.Guard.{Guard, Literal.is, type_at}
 use Rattle.guard.specs.Limits.{Limits}
 use Rattle.guard.specs.Types.{variants_of}
-use Rattle.tables.specs.Layout.{literal_table, row_table, type_table}
+use Rattle.tables.specs.Layout.{literal_table, row_table}
 use Rattle.tables.specs.declared.LiteralTable.{LiteralTable}
 use Rattle.tables.specs.declared.RowTable.{RowTable}
 use Rattle.tables.specs.declared.TypeTable.{TypeTable}

@@ -1,6 +1,6 @@
 -- `fill` meets its contract. Invariant: the rows so far stand in front of what was there. Assumes nothing.
 use mathlib.Core.Path.{◌≡◌, refl, ap, ◌∙◌}
-use Prim.Native.Nat.{◌+◌, ◌*◌, ◌-◌}
+use Prim.Native.Nat.{◌+◌, ◌*◌}
 use native.Mathlib.Omega.{arith}
 use lib.ListN.{length-set, set}
 use Rattle.summaries.specs.Summary.{possible_by, settled_by, variant_count}
