@@ -1,23 +1,21 @@
 -- What the calls ask, by the tables that are read: the questions in their order, and the guard that the summary is made of. Assumes nothing.
-use mathlib.Core.Path.{◌≡◌, refl, ap, sym, subst, ◌∙◌}
+use mathlib.Core.Path.{◌≡◌, refl, ap, sym, ◌∙◌}
 use mathlib.Core.Bool.{Bool, cond}
 use mathlib.Core.List.{List, [], ◌∷◌}
 use Prim.Native.Nat.{ℕ, ◌≤◌, ◌<◌}
 use native.Mathlib.Omega.{arith}
-use lib.ListN.{length}
 use borrow.Author.Tests.{le-ltb, lt-ltb}
 use Rattle.guard.specs.File.{file}
 use Rattle.guard.specs.Guard.{Guard}
 use Rattle.guard.specs.Limits.{base}
 use Rattle.guard.specs.Number.{Parsed, Parsed.accepted, Parsed.refused}
 use Rattle.tables.specs.Layout.{literal_table}
-use Rattle.tables.specs.declared.LiteralTable.{LiteralTable}
 use Rattle.reader.specs.Reader.{guard_tables, tables_at}
 use Rattle.reader.specs.declared.Tables.{Tables}
 use Rattle.reader.proofs.TablesRead.{guard-tables, refused-file, taken-file}
 use Rattle.verdictcodes.specs.Codes.{with_more}
 use Rattle.summaries.specs.AddedLine.{added_line, asks_file, asks_line, then_line}
-use Rattle.summaries.specs.InTables.{InTables, SomeGuard, longer}
+use Rattle.summaries.specs.InTables.{InTables, longer}
 use Rattle.summaries.proofs.Lines.{Lengthened, file-formed, lengthened, line-formed}
 use Rattle.addedline.specs.LineRead.{as_line, no_line}
 use Rattle.addedline.specs.declared.LineRead.{LineRead}
