@@ -1,5 +1,6 @@
 -- `draw` meets its contract. Assumes nothing.
 use borrow.Author.Rules.{rules}
+use native.Mathlib.Omega.{arith}
 use Rattle.classes.specs.Held.{state}
 use Prim.Native.Nat.{ℕ}
 use lib.ListN.{get_or}
@@ -53,7 +54,7 @@ set_places-requires c = let a = c.args in
     record {
       held = held;
       at_low = rows-low t.guard t.accepted st t.leaf held small l.result is _ same a.rows.now d.new.at d.new.rows d.result d.ensures;
-      many_bound = few-terms a.tables t.guard t.accepted t.is;
+      many_bound = omega (arith, few-terms a.tables t.guard t.accepted t.is);
       many_in_bounds = c.requires.room_for.1;
     }
 

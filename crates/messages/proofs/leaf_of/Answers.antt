@@ -1,4 +1,5 @@
 -- `leaf_of` meets its contract. Assumes nothing.
+use native.Mathlib.Omega.{arith}
 use Rattle.classes.specs.Held.{state}
 use Rattle.messages.proofs.LeafLaws.{leaf-made, shapes-there, terms-few}
 use Rattle.messages.proofs.leaf_of.Goals as goal
@@ -6,7 +7,7 @@ use Rattle.messages.proofs.leaf_of.Goals as goal
 pub needed-requires : goal.needed-requires
 needed-requires c = let t = c.requires.guards_tables in
     record {
-      rows_bound = terms-few c.args.tables c.args.problem c.requires.problem_value t.guard t.accepted t.is;
+      rows_bound = omega (arith, terms-few c.args.tables c.args.problem c.requires.problem_value t.guard t.accepted t.is);
       held = c.requires.held;
       shapes_fit = shapes-there c.args.tables c.args.problem c.requires.problem_value t.guard t.accepted t.is;
     }

@@ -1,6 +1,5 @@
 -- `set_places` meets its contract. Assumes nothing.
 use mathlib.Core.Path.{◌∙◌, ap}
-use Prim.Native.Nat.{◌-◌}
 use native.Mathlib.Omega.{arith}
 use lib.IntN.{pos}
 use lib.ListN.{get_or}
@@ -16,7 +15,7 @@ pub bounds-classes-i : goal.bounds-classes-i
 bounds-classes-i c = omega (arith, c.loop-i-test.true, c.requires.many_bound)
 
 pub row_at-requires : goal.row_at-requires
-row_at-requires c = c.requires.held.there c.loop-i.i
+row_at-requires c = c.requires.held.there _
 
 pub overflow_cast-places : goal.overflow_cast-places
 overflow_cast-places c = record { sfits = omega (arith, c.row_at.ensures, c.requires.at_low (get_or c.args.classes.now c.loop-i.i 0)) }
