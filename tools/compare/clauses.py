@@ -4,8 +4,18 @@ import glob
 import re
 import sys
 
-HEAD = re.compile(r'^\s*((?:pub )?(?:extern "C" )?fn (\w+)[^{;]*?)(?=\n\s*(?:requires|ensures|ghost)|\s*\{|\n\{)', re.M)
+HEAD = re.compile(r'^\s*(?:pub )?(?:extern "C" )?fn (\w+)(?:<[^>]*>)?\(', re.M)
+RESULT = re.compile(r"\s*(?:->\s*(?:[^{]*?(?=\n\s*(?:requires|ensures|ghost)\b)|[^{]*))?")
 CLAUSE = re.compile(r"\s*(requires|ensures|ghost)(\*?)(?: (\w+))?:? \{")
+
+
+def closed(text, at, opening, closing):
+    """The place behind the bracket that closes the one before `at`."""
+    depth = 1
+    while depth:
+        depth += {opening: 1, closing: -1}.get(text[at], 0)
+        at += 1
+    return at
 
 
 def functions(root):
@@ -16,15 +26,12 @@ def functions(root):
         with open(path, encoding="utf-8") as file:
             text = re.sub(r"//[^\n]*", "", file.read())
         for head in HEAD.finditer(text):
-            at, clauses = head.end(), []
-            while clause := CLAUSE.match(text, at):
-                end, depth = clause.end(), 1
-                while depth:
-                    depth += {"{": 1, "}": -1}.get(text[end], 0)
-                    end += 1
+            end = RESULT.match(text, closed(text, head.end(), "(", ")")).end()
+            signature, clauses = text[head.start() : end], []
+            while clause := CLAUSE.match(text, end):
+                end = closed(text, clause.end(), "{", "}")
                 clauses.append((clause[1] + clause[2], text[clause.end() : end - 1].strip()))
-                at = end
-            found[crate + "::" + head[2]] = (re.sub(r"\s+", " ", head[1]), clauses)
+            found[crate + "::" + head[1]] = (re.sub(r"\s+", " ", signature), clauses)
     return found
 
 
@@ -66,7 +73,7 @@ def main(old, new):
         if first != second:
             differ += 1
             print("CLAUSES", name, "\n   ", first, "\n   ", second)
-    print(differ, "contracts differ")
+    print(differ, "contracts differ, of", sum(len(clauses) for _, clauses in before.values()), "clauses before and", sum(len(clauses) for _, clauses in after.values()), "after")
 
 
 main(*sys.argv[1:3])
