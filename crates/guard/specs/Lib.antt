@@ -16,3 +16,4 @@ pub mod Answer
 pub mod Words
 pub mod Shown
 pub mod Cases
+pub mod Question

@@ -1,2 +1,0 @@
-pub mod PairLaws
-pub mod OneLiteralLaws

@@ -1,14 +1,17 @@
 -- What reading one literal gives, in terms of the parsers of the guard file. Assumes nothing: definitions.
 -- The parsers here know types and rows by two columns: `counts` holds the number of variants of each type, `us` the type of
 -- each of the `rows` rows. `LiteralReaderLaws` of `literalreader` shows that they are those of document 01.
-use Rattle.std.specs.Prelude.{◌≡◌, not, List, ℕ, zero, suc, ◌<◌, eqb, get_or}
-use Rattle.guard.specs.Guard.{Literal, Literal.equal, Literal.unequal, Literal.is, Literal.isnt}
-use Rattle.guard.specs.Number.{Parser, Parsed, ◌>>=◌, ◌>>◌, return, ask}
+use Rattle.std.specs.Prelude.{◌≡◌, not, List, ℕ, zero, suc, ◌<◌, eqb, get_or, Result, Ok, Err}
+use Rattle.guard.specs.Guard as guard
+use Rattle.guard.specs.Guard.{Literal.equal, Literal.unequal, Literal.is, Literal.isnt}
+use Rattle.guard.specs.Number.{Parser, Parsed, Parsed.refused, ◌>>=◌, ◌>>◌, return, ask}
 use Rattle.guard.specs.File.{kind, name}
-use Rattle.numbers.specs.Reader.{Says}
-use Rattle.tables.specs.Layout.{literal_kind, literal_other, literal_term}
+use Rattle.guard.specs.Question.{number_of}
+use Rattle.guard.specs.declared.Question.{Question}
+use Rattle.numbers.specs.Reader.{Found}
+use Rattle.numbers.specs.declared.Read.{Read}
 use Rattle.literalkinds.specs.declared.Pair.{Pair}
-use Rattle.literalkinds.specs.declared.LiteralRead.{LiteralRead}
+use Rattle.literalkinds.specs.declared.Literal.{Literal}
 
 -- each entry of a column
 abbrev pub EachBelow : ℕ → List ℕ → Type 0
@@ -16,12 +19,8 @@ EachBelow limit xs = (i : ℕ) → get_or xs i 0 < limit
 
 -- ---- the two numbers of a literal
 
-pub record Two : Type 0 where
-  pub term : ℕ
-  pub other : ℕ
-
 -- two terms of one type
-abbrev pub two_by : ℕ → List ℕ → Parser Two
+abbrev pub two_by : ℕ → List ℕ → Parser Pair
 two_by rows us = do
   i ← name rows
   j ← name rows
@@ -29,40 +28,37 @@ two_by rows us = do
   return (record { term = i; other = j })
 
 -- a term of variant type, and a variant of it
-abbrev pub test_by : List ℕ → ℕ → List ℕ → Parser Two
+abbrev pub test_by : List ℕ → ℕ → List ℕ → Parser Pair
 test_by counts rows us = do
   a ← name rows
   ask 7 (not (eqb (get_or counts (get_or us a 0) 0) 0))
   v ← name (get_or counts (get_or us a 0) 0)
   return (record { term = a; other = v })
 
-abbrev pub numbers_by : List ℕ → ℕ → List ℕ → ℕ → Parser Two
+abbrev pub numbers_by : List ℕ → ℕ → List ℕ → ℕ → Parser Pair
 numbers_by counts rows us zero = two_by rows us
 numbers_by counts rows us (suc zero) = two_by rows us
 numbers_by counts rows us (suc (suc k)) = test_by counts rows us
 
--- what a pair says of a parser of two numbers
-abbrev pub PairSays : List ℕ → Parsed Two → Pair → Type 0
-PairSays bytes p r = Says bytes p r.refused r.at (record { term = r.term; other = r.other })
-
 -- ---- a literal
 
-abbrev pub made : ℕ → Two → Literal
+abbrev pub made : ℕ → Pair → guard.Literal
 made zero x = equal x.term x.other
 made (suc zero) x = unequal x.term x.other
 made (suc (suc zero)) x = is x.term x.other
 made (suc (suc (suc k))) x = isnt x.term x.other
 
-abbrev pub literal_by : List ℕ → ℕ → List ℕ → Parser Literal
+abbrev pub literal_by : List ℕ → ℕ → List ℕ → Parser guard.Literal
 literal_by counts rows us = do
   k ← kind
   x ← numbers_by counts rows us k
   return (made k x)
 
--- what a literal that is read says of a parser of literals
-pub record LiteralSays (bytes : List ℕ) (p : Parsed Literal) (r : LiteralRead) : Type 0 where
-  pub literal : Literal
-  pub says : Says bytes p r.refused r.at literal
-  pub kind : r.refused ≡ 0 → r.kind ≡ literal_kind literal
-  pub term : r.refused ≡ 0 → r.term ≡ literal_term literal
-  pub other : r.refused ≡ 0 → r.other ≡ literal_other literal
+-- the literal that a table's numbers stand for
+abbrev pub literal_in : Literal → guard.Literal
+literal_in l = made l.kind (record { term = l.term; other = l.other })
+
+-- a reader of a literal has its numbers, of a kind that is listed
+abbrev pub ReadsLiteral : Parsed guard.Literal → List ℕ → Result (Read Literal) Question → Type 0
+ReadsLiteral p bytes (Ok r) = Found p bytes (literal_in r.value) r.at × (r.value.kind < 4)
+ReadsLiteral p bytes (Err q) = p ≡ refused (number_of q)

@@ -3,77 +3,70 @@
 // the fewest bytes, and is at most 4,294,967,295.
 #![tactic(auto)]
 
-ghost use Rattle.std.specs.Prelude.{◌≡◌, ◌<◌};
-ghost use Rattle.guard.specs.Number.{fold_signed};
-ghost use Rattle.numbers.specs.Reader.{refusal, number_at, below_at};
+ghost use Rattle.std.specs.Prelude.{◌≡◌, drop};
+ghost use Rattle.guard.specs.Number.{fold_signed, unsigned};
+ghost use Rattle.guard.specs.Question.{number_of};
+ghost use Rattle.numbers.specs.Reader.{Reads, below};
 
-// What a read found. `refused` is 0, or the question that refused, and then `value` and `at` are 0 too.
-// `at` is the cursor after the number.
+use guard::Question;
+
+// What was read, and the cursor behind it.
 #[derive(Clone, Copy)]
-pub struct Number {
-    pub refused: u32,
-    pub value: u32,
+pub struct Read<T> {
+    pub value: T,
     pub at: usize,
 }
 
-fn refuse(question: u32) -> Number
-    ensures { result ≡ refusal question }
-{
-    Number {
-        refused: question,
-        value: 0,
-        at: 0,
-    }
-}
-
 // The number at `at`, any place in the bytes or past them.
-pub fn read_number(bytes: &[u8], at: usize) -> Number
-    ensures { result ≡ number_at bytes.now at }
+pub fn read_number(bytes: &[u8], at: usize) -> Result<Read<u32>, Question>
+    ensures { Reads (unsigned (drop at bytes.now)) bytes.now result }
 {
     let count = leb128::byte_count(bytes, at, 5);
     if count == 0 {
-        return refuse(2);
+        return Err(Question::Truncated);
     }
     let next = at + count;
     let number = &bytes[at..next];
     let value = leb128::value_of(number);
     if !leb128::well_formed(number, value) {
-        return refuse(3);
+        return Err(Question::Malformed);
     }
-    Number {
-        refused: 0,
+    Ok(Read {
         value: value as u32,
         at: next,
-    }
+    })
 }
 
 // The same, with a quick look at the first byte: a count, a name or a kind mostly has no other.
-fn read_short(bytes: &[u8], at: usize) -> Number
-    ensures { result ≡ number_at bytes.now at }
+fn read_short(bytes: &[u8], at: usize) -> Result<Read<u32>, Question>
+    ensures { Reads (unsigned (drop at bytes.now)) bytes.now result }
 {
     if at < bytes.len() {
         let first = bytes[at];
         if first < 128 {
-            return Number {
-                refused: 0,
+            return Ok(Read {
                 value: first as u32,
                 at: at + 1,
-            };
+            });
         }
     }
     read_number(bytes, at)
 }
 
 // The number at `at`, refused by `question` unless it is below `limit`.
-pub fn read_below(bytes: &[u8], at: usize, limit: u32, question: u32) -> Number
-    requires { 0 < question }
-    ensures { result ≡ below_at bytes.now at limit question }
+pub fn read_below(
+    bytes: &[u8],
+    at: usize,
+    limit: u32,
+    question: Question,
+) -> Result<Read<u32>, Question>
+    ensures { Reads (below limit (number_of question) (drop at bytes.now)) bytes.now result }
 {
-    let n = read_short(bytes, at);
-    if n.refused == 0 && limit <= n.value {
-        return refuse(question);
+    let n = read_short(bytes, at)?;
+    if limit <= n.value {
+        return Err(question);
     }
-    n
+    Ok(n)
 }
 
 // What a signed value is written as. −1 − v fits where −v does not, at the lowest value.

@@ -1,4 +1,3 @@
-pub mod Answers
 pub mod Formed
-pub mod Found
 pub mod Halves
+pub mod ValueLaws

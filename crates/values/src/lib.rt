@@ -2,28 +2,13 @@
 // 18,446,744,073,709,551,615 as written.
 #![tactic(auto)]
 
-ghost use Rattle.std.specs.Prelude.{◌≡◌, ◌<◌, ◌≤◌, leb, length};
+ghost use Rattle.std.specs.Prelude.{◌≡◌, ◌<◌, ◌≤◌, drop, leb, length};
 ghost use Rattle.guard.specs.Number.{fold_signed, unfold_signed, value_of_groups, well_formed, width64};
-ghost use Rattle.values.specs.Values.{refusal, value_at};
+ghost use Rattle.numbers.specs.Reader.{Reads};
+ghost use Rattle.values.specs.Values.{value};
 
-// What a read of a constant's value found. `refused` is 0, or the question that refused, and then `value` and `at` are 0 too.
-// `at` is the cursor after the value.
-#[derive(Clone, Copy)]
-pub struct Value {
-    pub refused: u32,
-    pub value: i64,
-    pub at: usize,
-}
-
-fn refuse(question: u32) -> Value
-    ensures { result ≡ refusal question }
-{
-    Value {
-        refused: question,
-        value: 0,
-        at: 0,
-    }
-}
+use guard::Question;
+use numbers::Read;
 
 // Whether 64 bits hold the groups, which may have 70. The first five have 35 bits, so 29 are left for the others.
 fn fits(number: &[u8]) -> bool
@@ -67,23 +52,22 @@ fn well_formed(number: &[u8]) -> bool
 }
 
 // The value at `at`, any place in the bytes or past them.
-pub fn read_value(bytes: &[u8], at: usize) -> Value
-    ensures { result ≡ value_at bytes.now at }
+pub fn read_value(bytes: &[u8], at: usize) -> Result<Read<i64>, Question>
+    ensures { Reads (value (drop at bytes.now)) bytes.now result }
 {
     let count = leb128::byte_count(bytes, at, 10);
     if count == 0 {
-        return refuse(2);
+        return Err(Question::Truncated);
     }
     let next = at + count;
     let number = &bytes[at..next];
     if !well_formed(number) {
-        return refuse(3);
+        return Err(Question::Malformed);
     }
-    Value {
-        refused: 0,
+    Ok(Read {
         value: unfold(value_of(number)),
         at: next,
-    }
+    })
 }
 
 // The signed value that is written as `n`.
