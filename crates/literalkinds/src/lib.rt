@@ -10,9 +10,9 @@ use numbers::{Read, read_below};
 
 // The two numbers of a literal: a term, and a second term or a variant.
 #[derive(Clone, Copy)]
-struct Pair {
-    term: u8,
-    other: u8,
+pub struct Pair {
+    pub term: u8,
+    pub other: u8,
 }
 
 // A literal as a table has it.

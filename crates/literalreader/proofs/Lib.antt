@@ -1,4 +1,2 @@
 pub mod LiteralLaws
 pub mod LiteralReaderLaws
-pub mod TidyLiterals
-pub mod Ending

@@ -1,30 +1,60 @@
 -- Literals one after the other into their columns. Assumes nothing.
-use mathlib.Core.Path.{◌≡◌, refl, ap, sym, subst, ◌∙◌}
+use mathlib.Core.Path.{◌≡◌, refl, ap, sym, ◌∙◌}
 use mathlib.Core.List.{List, [], ◌∷◌, ◌++◌, map}
-use Prim.Native.Nat.{ℕ, suc, ◌+◌, ◌-◌, ◌≤◌, ◌<◌}
+use Prim.Native.Nat.{ℕ, zero, suc, ◌+◌, ◌-◌, ◌≤◌, ◌<◌}
 use native.Mathlib.Omega.{arith}
-use lib.ListN.{length, drop, set, length-append, length-drop}
+use lib.ListN.{length, drop, set, length-append}
 use Rattle.guard.specs.Guard.{Literal}
 use Rattle.guard.specs.File.{count}
-use Rattle.guard.specs.Number.{Parsed, Parsed.accepted, Parsed.refused, Parser, times}
+use Rattle.guard.specs.Grammar.{ended}
+use Rattle.guard.specs.Number.{Parsed, Parsed.accepted, Parsed.refused, Parser, ◌>>=◌, ◌>>◌, and_then, return, times}
 use Rattle.guard.proofs.Repeats.{after, after_none, times-done, times-next, times_stop}
+use Rattle.tables.specs.declared.LiteralTable.{LiteralTable}
 use Rattle.tables.specs.Layout.{literal_kind, literal_other, literal_table, literal_term, pad}
 use Rattle.tables.proofs.Columns.{column-set}
-use Rattle.numbers.specs.Reader.{Says, below, below_at}
-use Rattle.numbers.specs.declared.Number.{Number}
-use Rattle.numbers.proofs.NumberLaws.{count-is}
-use Rattle.numbers.proofs.Answers.{below-says, goes_on, stops}
-use Rattle.literalkinds.specs.declared.LiteralRead.{LiteralRead}
-use Rattle.literalkinds.specs.OneLiteral.{LiteralSays, literal_by}
-use Rattle.literalreader.specs.LiteralReader.{as_lines, lines_at, no_lines}
+use Rattle.numbers.specs.Reader.{Found, below}
+use Rattle.numbers.proofs.CountLaws.{count-is}
+use Rattle.literalkinds.specs.declared.Literal as row
+use Rattle.literalkinds.specs.OneLiteral.{literal_in}
+use Rattle.literalreader.specs.LiteralReader.{in_table, lines_by, literals_by}
+
+-- ---- the numbers of a literal
+
+module _ (l : row.Literal) where
+  kind_lem : (k t o : ℕ) → k < 4 → literal_kind (literal_in (record { kind = k; term = t; other = o })) ≡ k
+  kind_lem zero t o h = refl
+  kind_lem (suc zero) t o h = refl
+  kind_lem (suc (suc zero)) t o h = refl
+  kind_lem (suc (suc (suc zero))) t o h = refl
+  kind_lem (suc (suc (suc (suc k)))) t o h = absurd (omega arith)
+
+  pub kind-in : l.kind < 4 → l.kind ≡ literal_kind (literal_in l)
+  kind-in h = sym (kind_lem l.kind l.term l.other h)
+
+  term_lem : (k t o : ℕ) → literal_term (literal_in (record { kind = k; term = t; other = o })) ≡ t
+  term_lem zero t o = refl
+  term_lem (suc zero) t o = refl
+  term_lem (suc (suc zero)) t o = refl
+  term_lem (suc (suc (suc k))) t o = refl
+
+  pub term-in : l.term ≡ literal_term (literal_in l)
+  term-in = sym (term_lem l.kind l.term l.other)
+
+  other_lem : (k t o : ℕ) → literal_other (literal_in (record { kind = k; term = t; other = o })) ≡ o
+  other_lem zero t o = refl
+  other_lem (suc zero) t o = refl
+  other_lem (suc (suc zero)) t o = refl
+  other_lem (suc (suc (suc k))) t o = refl
+
+  pub other-in : l.other ≡ literal_other (literal_in l)
+  other-in = sym (other_lem l.kind l.term l.other)
 
 -- ---- the literals
 
 -- So many literals are read from `start` on and stand in the columns; what is left to read comes after them.
-pub record Read (p : Parser Literal) (bytes : List ℕ) (many start : ℕ) (kinds terms others : List ℕ) (at i : ℕ) : Type 0 where
+pub record SoFar (p : Parser Literal) (bytes : List ℕ) (many start : ℕ) (kinds terms others : List ℕ) (at i : ℕ) : Type 0 where
   pub literals : List Literal
   pub long : length literals ≡ i
-  pub some : i ≤ many
   pub within : at ≤ length bytes
   pub kind_column : kinds ≡ pad 64 (map literal_kind literals)
   pub term_column : terms ≡ pad 64 (map literal_term literals)
@@ -32,76 +62,99 @@ pub record Read (p : Parser Literal) (bytes : List ℕ) (many start : ℕ) (kind
   pub left : after literals (times (many - i) p (drop at bytes)) ≡ times many p (drop start bytes)
 
 module _ (p : Parser Literal) (bytes : List ℕ) (many start : ℕ) where
-  pub read_none : start ≤ length bytes → Read p bytes many start (pad 64 []) (pad 64 []) (pad 64 []) start 0
-  read_none h =
-      record { literals = []; long = refl; some = omega arith; within = h; kind_column = refl; term_column = refl; other_column = refl; left = let e : many - 0 ≡ many = omega arith in after_none (times (many - 0) p (drop start bytes)) ∙ ap (λ (k : ℕ). times k p (drop start bytes)) e }
+  pub none_yet : start ≤ length bytes → SoFar p bytes many start (pad 64 []) (pad 64 []) (pad 64 []) start 0
+  none_yet h =
+      record { literals = []; long = refl; within = h; kind_column = refl; term_column = refl; other_column = refl; left = let e : many - 0 ≡ many = omega arith in after_none (times (many - 0) p (drop start bytes)) ∙ ap (λ (k : ℕ). times k p (drop start bytes)) e }
 
-  module _ (kinds terms others : List ℕ) (at i : ℕ) (read : Read p bytes many start kinds terms others at i) where
-    module _ (more : i < many) (l : LiteralRead) (says : LiteralSays bytes (p (drop at bytes)) l) where
-      left-next : after read.literals (times (suc (many - suc i)) p (drop at bytes)) ≡ times many p (drop start bytes)
-      left-next = let e : suc (many - suc i) ≡ many - i = omega arith in ap (λ (k : ℕ). after read.literals (times k p (drop at bytes))) e ∙ read.left
+  module _ (kinds terms others : List ℕ) (at i : ℕ) (read : SoFar p bytes many start kinds terms others at i) where
+    left-next : i < many → after read.literals (times (suc (many - suc i)) p (drop at bytes)) ≡ times many p (drop start bytes)
+    left-next more = let e : suc (many - suc i) ≡ many - i = omega arith in ap (λ (k : ℕ). after read.literals (times k p (drop at bytes))) e ∙ read.left
 
-      pub read_stops : ¬ (l.refused ≡ 0) → times many p (drop start bytes) ≡ refused l.refused
-      read_stops n = sym left-next ∙ times_stop p read.literals (many - suc i) (drop at bytes) l.refused (says.says.refuses n)
+    pub stops_here : i < many → (q : ℕ) → p (drop at bytes) ≡ refused q → times many p (drop start bytes) ≡ refused q
+    stops_here more q e = sym (left-next more) ∙ times_stop p read.literals (many - suc i) (drop at bytes) q e
 
-      pub read_next : l.refused ≡ 0 → many ≤ 64 → Read p bytes many start (set kinds i l.kind) (set terms i l.term) (set others i l.other) l.at (i + 1)
-      read_next z room =
-          let x : Literal = says.literal in
-          let e : i + 1 ≡ suc i = omega arith in
-          rw e
-          (record {
-            literals = read.literals ++ (x ∷ []);
-            long = omega (arith, length-append read.literals (x ∷ []), read.long);
-            some = more;
-            within = says.says.within z;
-            kind_column = column-set 0 literal_kind 64 kinds read.literals x i l.kind read.kind_column read.long (omega arith) (says.kind z);
-            term_column = column-set 0 literal_term 64 terms read.literals x i l.term read.term_column read.long (omega arith) (says.term z);
-            other_column = column-set 0 literal_other 64 others read.literals x i l.other read.other_column read.long (omega arith) (says.other z);
-            left = sym (times-next p read.literals (many - suc i) (drop at bytes) x (drop l.at bytes) (says.says.accepts z)) ∙ left-next;
-          })
+    pub one_more : i < many → many ≤ 64 → (l : row.Literal) (next : ℕ) → Found (p (drop at bytes)) bytes (literal_in l) next → l.kind < 4
+        → SoFar p bytes many start (set kinds i l.kind) (set terms i l.term) (set others i l.other) next (i + 1)
+    one_more more room l next found small =
+        let x : Literal = literal_in l in
+        let e : i + 1 ≡ suc i = omega arith in
+        rw e
+        (record {
+          literals = read.literals ++ (x ∷ []);
+          long = omega (arith, length-append read.literals (x ∷ []), read.long);
+          within = found.within;
+          kind_column = column-set 0 literal_kind 64 kinds read.literals x i l.kind read.kind_column read.long (omega arith) (kind-in l small);
+          term_column = column-set 0 literal_term 64 terms read.literals x i l.term read.term_column read.long (omega arith) (term-in l);
+          other_column = column-set 0 literal_other 64 others read.literals x i l.other read.other_column read.long (omega arith) (other-in l);
+          left = sym (times-next p read.literals (many - suc i) (drop at bytes) x (drop next bytes) found.accepts) ∙ left-next more;
+        })
 
-    pub read_all : many ≤ i → times many p (drop start bytes) ≡ accepted read.literals (drop at bytes)
-    read_all h =
+    pub all_read : many ≡ i → times many p (drop start bytes) ≡ accepted read.literals (drop at bytes)
+    all_read h =
         let e : many - i ≡ 0 = omega arith in
         sym read.left ∙ ap (λ (k : ℕ). after read.literals (times k p (drop at bytes))) e ∙ times-done p read.literals 0 (drop at bytes)
 
-    pub read_table : many ≤ i → record { many = many; kinds = kinds; terms = terms; others = others } ≡ literal_table read.literals
+    pub table_read : many ≡ i → record { many = many; kinds = kinds; terms = terms; others = others } ≡ literal_table read.literals
     unfolding literal_table
-    read_table h =
-        let n : many ≡ length read.literals = omega (arith, read.long, read.some) in
+    table_read h =
+        let n : many ≡ length read.literals = omega (arith, read.long) in
         let k = read.kind_column in
         let t = read.term_column in
         let o = read.other_column in
         cc
 
--- ---- the count before them
+-- ---- the count before them, and the end behind them
 
-module _ (bytes : List ℕ) (at limit : ℕ) (counts : List ℕ) (rows : ℕ) (us : List ℕ) (n : Number) (is_n : n ≡ below_at bytes at (limit + 1) 4) where
-  abbrev one : Parser Literal
-  one = literal_by counts rows us
+module _ (limit : ℕ) (p : Parser Literal) (bs : List ℕ) where
+  counted_lem : count limit bs ≡ below (limit + 1) 4 bs
+  counted_lem = let e : limit + 1 ≡ suc limit = omega arith in count-is limit bs ∙ ap (λ (k : ℕ). below k 4 bs) (sym e)
 
-  counted : Says bytes (count limit (drop at bytes)) n.refused n.at n.value
-  counted =
-      let e : limit + 1 ≡ suc limit = omega arith in
-      subst (λ (r : Parsed ℕ). Says bytes r n.refused n.at n.value) (ap (λ (k : ℕ). below k 4 (drop at bytes)) e ∙ sym (count-is limit (drop at bytes)))
-      (below-says bytes at (limit + 1) 4 (omega arith) n is_n)
+  pub count_refuses : (q : ℕ) → below (limit + 1) 4 bs ≡ refused q → in_table (lines_by limit p) bs ≡ refused q
+  count_refuses q e = ap (λ (r : Parsed ℕ). and_then (λ ls. return (literal_table ls)) (and_then (λ l. times l p) r)) (counted_lem ∙ e)
 
-  pub count_stops : ¬ (n.refused ≡ 0) → no_lines n.refused ≡ lines_at bytes at limit counts rows us
-  unfolding lines_at as_lines
-  count_stops h = sym (ap (as_lines bytes) (stops (λ l. times l one) bytes _ n.refused n.at n.value counted h))
+  pub counted : (n : ℕ) (rest : List ℕ) → below (limit + 1) 4 bs ≡ accepted n rest → in_table (lines_by limit p) bs ≡ and_then (λ ls. return (literal_table ls)) (times n p rest)
+  counted n rest e = ap (λ (r : Parsed ℕ). and_then (λ ls. return (literal_table ls)) (and_then (λ l. times l p) r)) (counted_lem ∙ e)
 
-  module _ (count_read : n.refused ≡ 0) where
-    at-lines : lines_at bytes at limit counts rows us ≡ as_lines bytes (times n.value one (drop n.at bytes))
-    unfolding lines_at
-    at-lines = ap (as_lines bytes) (goes_on (λ l. times l one) bytes _ n.refused n.at n.value counted count_read)
+  -- asked of the bytes that are left: has the file ended?
+  abbrev last : List Literal → Parser LiteralTable
+  last ls rest = and_then (λ xs. return (literal_table xs)) ((ended >> return ls) rest)
 
-    pub lines_stop : (q : ℕ) → times n.value one (drop n.at bytes) ≡ refused q → no_lines q ≡ lines_at bytes at limit counts rows us
-    unfolding as_lines
-    lines_stop q e = sym (at-lines ∙ ap (as_lines bytes) e)
+  at_last : in_table (literals_by limit p) bs ≡ and_then last (lines_by limit p bs)
+  at_last = go (count limit bs)
+    where
+      line : (r : Parsed (List Literal)) → and_then (λ xs. return (literal_table xs)) (and_then (λ ls. ended >> return ls) r) ≡ and_then last r
+      line (refused q) = refl
+      line (accepted ls rest) = refl
 
-    pub lines-read : (ls : List Literal) (end : ℕ) → end ≤ length bytes → times n.value one (drop n.at bytes) ≡ accepted ls (drop end bytes)
-        → record { refused = 0; at = end; literals = literal_table ls } ≡ lines_at bytes at limit counts rows us
-    unfolding as_lines
-    lines-read ls end within e =
-        let there : end ≡ length bytes - length (drop end bytes) = omega (arith, length-drop end bytes, within) in
-        ap (λ (k : ℕ). record { refused = 0; at = k; literals = literal_table ls }) there ∙ sym (at-lines ∙ ap (as_lines bytes) e)
+      go : (r : Parsed ℕ) → and_then (λ xs. return (literal_table xs)) (and_then (λ l. times l p >>= λ ls. ended >> return ls) r) ≡ and_then last (and_then (λ l. times l p) r)
+      go (refused q) = refl
+      go (accepted l rest) = line (times l p rest)
+
+  pub lines_refuse : (q : ℕ) → in_table (lines_by limit p) bs ≡ refused q → in_table (literals_by limit p) bs ≡ refused q
+  lines_refuse q e = at_last ∙ go (lines_by limit p bs) e
+    where
+      go : (r : Parsed (List Literal)) → and_then (λ ls. return (literal_table ls)) r ≡ refused q → and_then last r ≡ refused q
+      go (refused z) e = (let h : z ≡ q = cc in ap refused h)
+      go (accepted ls rest) e = cc
+
+  pub not_ended : (t : LiteralTable) (rest : List ℕ) → in_table (lines_by limit p) bs ≡ accepted t rest → 0 < length rest → in_table (literals_by limit p) bs ≡ refused 10
+  not_ended t rest e h = at_last ∙ go (lines_by limit p bs) e
+    where
+      more : (ls : List Literal) (mid : List ℕ) → mid ≡ rest → last ls mid ≡ refused 10
+      more ls [] d = absurd (omega (arith, ap length d))
+      more ls (b ∷ mid) d = refl
+
+      go : (r : Parsed (List Literal)) → and_then (λ ls. return (literal_table ls)) r ≡ accepted t rest → and_then last r ≡ refused 10
+      go (refused z) e = cc
+      go (accepted ls mid) e = let d : mid ≡ rest = cc in more ls mid d
+
+  pub at_the_end : (t : LiteralTable) (rest : List ℕ) → in_table (lines_by limit p) bs ≡ accepted t rest → length rest ≡ 0 → in_table (literals_by limit p) bs ≡ accepted t []
+  at_the_end t rest e h = at_last ∙ go (lines_by limit p bs) e
+    where
+      none : (ls : List Literal) (mid : List ℕ) → mid ≡ rest → literal_table ls ≡ t → last ls mid ≡ accepted t []
+      none ls [] d f = ap (λ (x : LiteralTable). accepted x []) f
+      none ls (b ∷ mid) d f = absurd (omega (arith, ap length d))
+
+      go : (r : Parsed (List Literal)) → and_then (λ ls. return (literal_table ls)) r ≡ accepted t rest → and_then last r ≡ accepted t []
+      go (refused z) e = cc
+      go (accepted ls mid) e = let d : mid ≡ rest = cc in let f : literal_table ls ≡ t = cc in none ls mid d f

@@ -4,14 +4,15 @@ use mathlib.Core.Bool.{Bool, true, false, not}
 use mathlib.Core.List.{List, ◌∷◌}
 use Prim.Native.Nat.{ℕ, zero, suc}
 use lib.Dec.{eqb}
-use lib.ListN.{length, get_or, drop}
+use lib.ListN.{length, get_or}
 use Rattle.guard.specs.Types.{Types, variants_of}
 use Rattle.guard.specs.Guard.{Literal, Row, type_at}
 use Rattle.guard.specs.File.{count, kind, literal, literal_of, name, term_and_variant, two_terms}
 use Rattle.guard.specs.Grammar.{ended}
 use Rattle.guard.specs.Number.{Parsed, Parsed.accepted, Parsed.refused, Parser, ◌>>=◌, ◌>>◌, and_then, ask, return, times}
-use Rattle.literalkinds.specs.OneLiteral.{Two, literal_by, made, numbers_by, test_by, two_by}
-use Rattle.literalreader.specs.LiteralReader.{as_literals, literals_at, literals_by}
+use Rattle.literalkinds.specs.declared.Pair.{Pair}
+use Rattle.literalkinds.specs.OneLiteral.{literal_by, made, numbers_by, test_by, two_by}
+use Rattle.literalreader.specs.LiteralReader.{literals_by}
 
 -- ---- parsers that agree, repeated
 
@@ -35,7 +36,7 @@ literals-same limit p q same bs = go (count limit bs)
 
 module _ (ts : Types) (rs : List Row) (counts us : List ℕ)
     (is_count : (t : ℕ) → get_or counts t 0 ≡ length (variants_of ts t)) (is_type : (i : ℕ) → get_or us i 0 ≡ type_at ts rs i) where
-  two-terms-are : (make : Two → Literal) (bs : List ℕ) → (two_by (length rs) us >>= λ x. return (make x)) bs ≡ two_terms ts rs (λ i j. make (record { term = i; other = j })) bs
+  two-terms-are : (make : Pair → Literal) (bs : List ℕ) → (two_by (length rs) us >>= λ x. return (make x)) bs ≡ two_terms ts rs (λ i j. make (record { term = i; other = j })) bs
   two-terms-are make bs = first (name (length rs) bs)
     where
       asked : (i j : ℕ) (b : Bool) (rest : List ℕ)
@@ -58,7 +59,7 @@ module _ (ts : Types) (rs : List Row) (counts us : List ℕ)
       first (refused q) = refl
       first (accepted i rest) = second i (name (length rs) rest)
 
-  test_is : (make : Two → Literal) (bs : List ℕ) → (test_by counts (length rs) us >>= λ x. return (make x)) bs ≡ term_and_variant ts rs (λ i v. make (record { term = i; other = v })) bs
+  test_is : (make : Pair → Literal) (bs : List ℕ) → (test_by counts (length rs) us >>= λ x. return (make x)) bs ≡ term_and_variant ts rs (λ i v. make (record { term = i; other = v })) bs
   test_is make bs = first (name (length rs) bs)
     where
       variant : (i : ℕ) (p : Parsed ℕ) → and_then (λ x. return (make x)) (and_then (λ v. return (record { term = i; other = v })) p) ≡ and_then (λ v. return (make (record { term = i; other = v }))) p
@@ -105,6 +106,5 @@ module _ (ts : Types) (rs : List Row) (counts us : List ℕ)
       go (accepted k rest) = numbers-are k rest
 
   -- what is read is the literals part of the guard file
-  pub literals-are : (bytes : List ℕ) (at limit : ℕ) → literals_at bytes at limit counts (length rs) us ≡ as_literals (literals_by limit (literal ts rs) (drop at bytes))
-  unfolding literals_at
-  literals-are bytes at limit = ap as_literals (literals-same limit (literal_by counts (length rs) us) (literal ts rs) literal-is (drop at bytes))
+  pub literals-are : (limit : ℕ) (bs : List ℕ) → literals_by limit (literal_by counts (length rs) us) bs ≡ literals_by limit (literal ts rs) bs
+  literals-are limit = literals-same limit (literal_by counts (length rs) us) (literal ts rs) literal-is

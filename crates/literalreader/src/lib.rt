@@ -1,56 +1,14 @@
 // Reads the literals of a guard file into their table, and asks whether the file has ended: questions 2 to 7 of them, and 10.
 #![tactic(auto)]
 
-ghost use Rattle.std.specs.Prelude.{◌≡◌, ◌≤◌};
-ghost use Rattle.literalreader.specs.LiteralReader.{EachBelow, lines_at, literals_at, no_lines, no_literals};
+ghost use Rattle.std.specs.Prelude.{◌≤◌, drop};
+ghost use Rattle.numbers.specs.Reader.{Reads, ReadsAll};
+ghost use Rattle.literalkinds.specs.OneLiteral.{literal_by};
+ghost use Rattle.literalreader.specs.LiteralReader.{EachBelow, in_table, lines_by, literals_by};
 
+use guard::Question;
+use numbers::{Read, read_below};
 use tables::LiteralTable;
-
-// The table of lines, and where what follows them begins; or the question that refused, and an empty table.
-#[derive(Clone, Copy)]
-pub struct LinesRead {
-    pub refused: u32,
-    pub at: usize,
-    pub literals: LiteralTable,
-}
-
-// The table of literals; or the question that refused, and an empty table.
-#[derive(Clone, Copy)]
-pub struct LiteralsRead {
-    pub refused: u32,
-    pub literals: LiteralTable,
-}
-
-fn no_lines(question: u32) -> LinesRead
-    ensures { result ≡ no_lines question }
-{
-    let none = [0u8; 64];
-    LinesRead {
-        refused: question,
-        at: 0,
-        literals: LiteralTable {
-            many: 0,
-            kinds: none,
-            terms: none,
-            others: none,
-        },
-    }
-}
-
-fn no_literals(question: u32) -> LiteralsRead
-    ensures { result ≡ no_literals question }
-{
-    let none = [0u8; 64];
-    LiteralsRead {
-        refused: question,
-        literals: LiteralTable {
-            many: 0,
-            kinds: none,
-            terms: none,
-            others: none,
-        },
-    }
-}
 
 // The count of lines, and the lines.
 pub fn read_lines(
@@ -60,44 +18,36 @@ pub fn read_lines(
     counts: &[u8; 6],
     rows: usize,
     types: &[u8; 24],
-) -> LinesRead
+) -> Result<Read<LiteralTable>, Question>
     requires limit_bound { limit ≤ 64 }
     requires rows_bound { rows ≤ 24 }
     requires each_below { EachBelow 17 counts.now }
     requires each_below_2 { EachBelow 6 types.now }
-    ensures { result ≡ lines_at bytes.now at limit counts.now rows types.now }
+    ensures { Reads (in_table (lines_by limit (literal_by counts.now rows types.now)) (drop at bytes.now)) bytes.now result }
 {
-    let n = numbers::read_below(bytes, at, limit + 1, 4);
-    if n.refused != 0 {
-        return no_lines(n.refused);
-    }
+    let n = read_below(bytes, at, limit + 1, Question::TooMany)?;
     let many = n.value as usize;
     let mut kinds = [0u8; 64];
     let mut terms = [0u8; 64];
     let mut others = [0u8; 64];
     let mut cursor = n.at;
-    let mut i: usize = 0;
-    while i < many {
-        let l = literalkinds::read_literal(bytes, cursor, counts, rows, types);
-        if l.refused != 0 {
-            return no_lines(l.refused);
-        }
-        kinds[i] = l.kind;
-        terms[i] = l.term;
-        others[i] = l.other;
+    for i in 0..many {
+        let l = literalkinds::read_literal(bytes, cursor, counts, rows, types)?;
+        let literal = l.value;
+        kinds[i] = literal.kind;
+        terms[i] = literal.term;
+        others[i] = literal.other;
         cursor = l.at;
-        i += 1;
     }
-    LinesRead {
-        refused: 0,
-        at: cursor,
-        literals: LiteralTable {
+    Ok(Read {
+        value: LiteralTable {
             many,
             kinds,
             terms,
             others,
         },
-    }
+        at: cursor,
+    })
 }
 
 // The same, and the end of the file.
@@ -108,23 +58,16 @@ pub fn read_literals(
     counts: &[u8; 6],
     rows: usize,
     types: &[u8; 24],
-) -> LiteralsRead
+) -> Result<LiteralTable, Question>
     requires limit_bound { limit ≤ 64 }
     requires rows_bound { rows ≤ 24 }
     requires each_below { EachBelow 17 counts.now }
     requires each_below_2 { EachBelow 6 types.now }
-    ensures { result ≡ literals_at bytes.now at limit counts.now rows types.now }
+    ensures { ReadsAll (in_table (literals_by limit (literal_by counts.now rows types.now)) (drop at bytes.now)) result }
 {
-    let l = read_lines(bytes, at, limit, counts, rows, types);
-    if l.refused != 0 {
-        return no_literals(l.refused);
-    }
+    let l = read_lines(bytes, at, limit, counts, rows, types)?;
     if l.at < bytes.len() {
-        return no_literals(10);
+        return Err(Question::TrailingBytes);
     }
-    let literals = l.literals;
-    LiteralsRead {
-        refused: 0,
-        literals,
-    }
+    Ok(l.value)
 }

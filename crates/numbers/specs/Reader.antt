@@ -1,5 +1,5 @@
 -- What a reader's answer says of a parser of the guard file. Assumes nothing: definitions.
-use Rattle.std.specs.Prelude.{◌≡◌, List, ℕ, ◌≤◌, ltb, length, drop, Result, Ok, Err}
+use Rattle.std.specs.Prelude.{◌≡◌, List, [], ℕ, ◌≤◌, ltb, length, drop, Result, Ok, Err}
 use Rattle.guard.specs.Number.{Parsed, Parsed.accepted, Parsed.refused, Parser, ◌>>=◌, ◌>>◌, ask, return, unsigned}
 use Rattle.guard.specs.Question.{number_of}
 use Rattle.guard.specs.declared.Question.{Question}
@@ -23,3 +23,8 @@ pub record Found {A : Type 0} (p : Parsed A) (bytes : List ℕ) (x : A) (at : �
 abbrev pub Reads : {A : Type 0} → Parsed A → List ℕ → Result (Read A) Question → Type 0
 Reads p bytes (Ok r) = Found p bytes r.value r.at
 Reads p bytes (Err q) = p ≡ refused (number_of q)
+
+-- the same of a parser that is to leave nothing
+abbrev pub ReadsAll : {A : Type 0} → Parsed A → Result A Question → Type 0
+ReadsAll p (Ok x) = p ≡ accepted x []
+ReadsAll p (Err q) = p ≡ refused (number_of q)
