@@ -1,12 +1,13 @@
--- Laws on parsers for code that reads at a cursor: a count by its limit, a function of a parser's value, and how many elements a
+-- Laws on parsers for code that reads at a cursor: a number by its limit, a function of a parser's value, and how many elements a
 -- parser reads so many times. Assumes nothing.
 use mathlib.Core.Path.{◌≡◌, refl, ap, sym, ◌∙◌}
-use mathlib.Core.Bool.{Bool}
+use mathlib.Core.Bool.{Bool, true, false}
 use mathlib.Core.List.{List, [], ◌∷◌}
-use Prim.Native.Nat.{ℕ, zero, suc}
+use Prim.Native.Nat.{ℕ, zero, suc, ◌<◌}
 use native.Mathlib.Omega.{arith}
 use lib.Dec.{leb, leb-suc-suc, ltb}
 use lib.ListN.{length}
+use borrow.Author.Tests.{ltb-true}
 use Rattle.guard.specs.File.{count}
 use Rattle.guard.specs.Number.{Parsed, Parsed.accepted, Parsed.refused, Parser, ◌>>◌, and_then, ask, return, times, unsigned}
 use Rattle.numbers.specs.Reader.{below}
@@ -21,6 +22,17 @@ count-is most bs = go (unsigned bs)
     go : (p : Parsed ℕ) → and_then (λ (n : ℕ). ask 4 (leb n most) >> return n) p ≡ and_then (λ (n : ℕ). ask 4 (ltb n (suc most)) >> return n) p
     go (refused q) = refl
     go (accepted n rest) = ap (λ (t : Bool). (ask 4 t >> return n) rest) (sym (leb-suc-suc n most))
+
+pub below-small : (limit q : ℕ) (bs : List ℕ) (n : ℕ) (rest : List ℕ) → below limit q bs ≡ accepted n rest → n < limit
+below-small limit q bs n rest e = go (unsigned bs) e
+  where
+    test : (m : ℕ) (mid : List ℕ) (b : Bool) → ltb m limit ≡ b → and_then (λ (u : Unit {0}). return m) (ask q b mid) ≡ accepted n rest → n < limit
+    test m mid true h f = let z : m ≡ n = cc in omega (arith, ltb-true m limit h)
+    test m mid false h f = no_value f
+
+    go : (p : Parsed ℕ) → and_then (λ (n : ℕ). ask q (ltb n limit) >> return n) p ≡ accepted n rest → n < limit
+    go (refused q) f = no_value f
+    go (accepted m mid) f = test m mid (ltb m limit) refl f
 
 module _ {A B : Type 0} (f : A → B) where
   -- the value that a function of a parser's value comes from
