@@ -26,18 +26,12 @@ module _ (bytes : List ℕ) (at many total k : ℕ) (limit : k ≡ room total) w
   abbrev from_count : Parsed ℕ → Parsed (List Variant)
   from_count r = and_then (λ v. times v (variant many)) r
 
-  pub type_halt : (q : ℕ) → below k 4 (drop at bytes) ≡ refused q → one_type many total (drop at bytes) ≡ refused q
-  type_halt q e = ap from_count (in_room (refused q) e)
-
   module _ (n at' : ℕ) (found : Found (below k 4 (drop at bytes)) bytes n at') where
     pub type-inside : total ≤ 48 → total + n ≤ 48
     type-inside fit = omega (arith, below-small (room total) 4 (drop at bytes) n (drop at' bytes) (in_room _ found.accepts))
 
     from-variants : one_type many total (drop at bytes) ≡ times n (variant many) (drop at' bytes)
     from-variants = ap from_count (in_room _ found.accepts)
-
-    pub type_halt_variants : (q : ℕ) → variants_by n many (drop at' bytes) ≡ refused q → one_type many total (drop at bytes) ≡ refused q
-    type_halt_variants q e = from-variants ∙ mapped_stop (λ vs. tt) (times n (variant many) (drop at' bytes)) q e
 
     pub type-done : (u : Unit {0}) (next : ℕ) → Found (variants_by n many (drop at' bytes)) bytes u next → Found (type_by many total (drop at bytes)) bytes n next
     type-done u next f =

@@ -1,20 +1,20 @@
 -- What each function that reads variants goes by: from the answers of its callees to its own answer. Assumes nothing.
 use mathlib.Core.Path.{◌≡◌, ap, sym, subst, ◌∙◌}
-use mathlib.Core.List.{List, [], ◌∷◌, ◌++◌, append_assoc, append-nil}
+use mathlib.Core.List.{List, [], ◌∷◌, ◌++◌, append_assoc}
 use Prim.Native.Nat.{ℕ, ◌+◌, ◌*◌, ◌≤◌, ◌<◌}
 use native.Mathlib.Omega.{arith}
-use lib.ListN.{length, drop, set, replicate, length-append}
+use lib.ListN.{length, drop, set, length-append}
 use Rattle.guard.specs.File.{name, variant}
 use Rattle.guard.specs.Number.{Parsed, Parsed.accepted, Parsed.refused, Parser, and_then, return, times}
 use Rattle.guard.specs.Types as guard
 use Rattle.guard.proofs.Accepted.{reads-variant}
 use Rattle.guard.proofs.Reading as parsers
 use Rattle.tables.specs.Layout.{pad}
-use Rattle.tables.proofs.Columns.{pad-nil, pad-set}
+use Rattle.tables.proofs.Columns.{pad-set}
 use Rattle.numbers.specs.Reader.{Found, below}
 use Rattle.variantreader.specs.VariantReader.{Holds, Stores, sorts_by, store_three, variant_by, variants_by}
 use Rattle.variantreader.proofs.Parsers.{count-is, mapped, mapped_stop, no_value, times-length}
-use Rattle.variantreader.proofs.Midway.{Midway, midway_done, midway_next, midway_start, midway_stop}
+use Rattle.variantreader.proofs.Midway.{Midway, midway_next, midway_stop}
 use Rattle.variantreader.proofs.Stored.{holds_more}
 use Rattle.variantreader.specs.declared.Variant.{Variant}
 
@@ -25,9 +25,6 @@ module _ (bytes : List ℕ) (at arity many : ℕ) where
     pub xs : List ℕ
     pub midway : Midway (name many) arity bytes at i next xs
     pub column : sorts ≡ pad 3 xs
-
-  pub sorts-start : at ≤ length bytes → SomeSorts 0 at (replicate 3 0)
-  sorts-start h = record { xs = []; midway = midway_start (name many) arity bytes at h; column = sym (pad-nil 0 3) }
 
   module _ (i next : ℕ) (sorts : List ℕ) (some : SomeSorts i next sorts) where
     pub sorts-next : i < arity → arity ≤ 3 → (x next' : ℕ) → Found (below many 5 (drop next bytes)) bytes x next' → SomeSorts (i + 1) next' (set sorts i x)
@@ -43,15 +40,6 @@ module _ (bytes : List ℕ) (at arity many : ℕ) where
     pub sorts_stop : i < arity → (q : ℕ) → below many 5 (drop next bytes) ≡ refused q → sorts_by arity many (drop at bytes) ≡ refused q
     sorts_stop h q e = ap (and_then (λ fs. return (pad 3 fs))) (midway_stop (name many) arity bytes at i next some.xs some.midway h q e)
 
-    pub sorts-done : arity ≤ i → Found (sorts_by arity many (drop at bytes)) bytes sorts next
-    sorts-done h =
-        record {
-          accepts =
-              ap (and_then (λ fs. return (pad 3 fs))) (midway_done (name many) arity bytes at i next some.xs some.midway h)
-              ∙ ap (λ (l : List ℕ). accepted l (drop next bytes)) (sym some.column);
-          within = some.midway.within;
-        }
-
 -- ---- a variant
 
 few-fields : (many : ℕ) → many ≤ 128 → (bs : List ℕ) (fs : guard.Variant) (rest : List ℕ) → variant many bs ≡ accepted fs rest → length fs ≤ 3
@@ -66,10 +54,6 @@ module _ (bytes : List ℕ) (at many : ℕ) where
   variant_stop q e = ap from_count (count-is 3 (drop at bytes) ∙ e)
 
   module _ (n at' : ℕ) (counted : Found (below 4 4 (drop at bytes)) bytes n at') where
-    pub variant_stop_fields : (q : ℕ) → sorts_by n many (drop at' bytes) ≡ refused q → variant_by many (drop at bytes) ≡ refused q
-    variant_stop_fields q e =
-        ap from_count (count-is 3 (drop at bytes) ∙ counted.accepts) ∙ ap (and_then (λ fs. return (record { arity = length fs; sorts = pad 3 fs }))) (mapped_stop (pad 3) (times n (name many) (drop at' bytes)) q e)
-
     pub variant-done : (sorts : List ℕ) (next : ℕ) → Found (sorts_by n many (drop at' bytes)) bytes sorts next
         → Found (variant_by many (drop at bytes)) bytes (record { arity = n; sorts = sorts }) next
     variant-done sorts next f =
@@ -96,14 +80,6 @@ module _ (bytes : List ℕ) (at n many w : ℕ) (arities₀ sorts₀ : List ℕ)
     pub vs : List guard.Variant
     pub midway : Midway (variant many) n bytes at i next vs
     pub held : (ws : List guard.Variant) → w ≡ length ws → Holds ws arities₀ sorts₀ → Holds (ws ++ vs) arities sorts
-
-  pub variants-start : at ≤ length bytes → SomeVariants 0 at arities₀ sorts₀
-  variants-start h =
-      record {
-        vs = [];
-        midway = midway_start (variant many) n bytes at h;
-        held = λ ws l g. subst (λ (x : List guard.Variant). Holds x arities₀ sorts₀) (sym (append-nil ws)) g;
-      }
 
   module _ (i next : ℕ) (arities sorts : List ℕ) (some : SomeVariants i next arities sorts) where
     pub variants-next : i < n → w + n ≤ 48 → many ≤ 6 → (r : Variant) (next' : ℕ) → Found (variant_by many (drop next bytes)) bytes r next' → (arities' sorts' : List ℕ)
@@ -132,19 +108,3 @@ module _ (bytes : List ℕ) (at n many w : ℕ) (arities₀ sorts₀ : List ℕ)
 
     pub variants_stop : i < n → (q : ℕ) → variant_by many (drop next bytes) ≡ refused q → variants_by n many (drop at bytes) ≡ refused q
     variants_stop h q e = ap (and_then (λ vs. return tt)) (variants_halt h q e)
-
-    pub variants-done : n ≤ i → Found (variants_by n many (drop at bytes)) bytes tt next
-    variants-done h =
-        record {
-          accepts = ap (and_then (λ vs. return tt)) (midway_done (variant many) n bytes at i next some.vs some.midway h);
-          within = some.midway.within;
-        }
-
-    pub variants_stored : n ≤ i → Stores (times n (variant many)) (drop at bytes) w arities₀ sorts₀ arities sorts
-    variants_stored h =
-        record {
-          stored = λ ws vs rest l g f.
-              (let e = midway_done (variant many) n bytes at i next some.vs some.midway h in
-              let q : some.vs ≡ vs = cc in
-              subst (λ (x : List guard.Variant). Holds (ws ++ x) arities sorts) q (some.held ws l g));
-        }
