@@ -7,16 +7,10 @@ ghost use Rattle.laws.specs.Lists.{all};
 ghost use Rattle.guard.specs.Types.{variants_of};
 ghost use Rattle.tables.specs.Layout.{TypesInRange, types_of};
 ghost use Rattle.finite.specs.TypeColumns.{FieldsInRange, InRange, fields_at, types_in};
-ghost use Rattle.datatypes.specs.Facts.{all_growing, growing, refused_at, type_facts};
+ghost use Rattle.datatypes.specs.Facts.{all_growing, growing, type_facts};
 
+use guard::Question;
 use tables::TypeTable;
-
-// The outcome of the questions 8 and 9: the number of the one that got a no, or 0; the variant of each type's default.
-#[derive(Clone, Copy)]
-pub struct TypeFacts {
-    pub refused: u32,
-    pub defaults: [u8; 6],
-}
 
 // Question 9 for variant `w`: does it have a field of infinite type, or no field?
 fn variant_growing(arities: &[u8; 48], sorts: &[u8; 144], finite: &[u8; 6], w: usize) -> bool
@@ -87,44 +81,30 @@ fn all_growing(
     true
 }
 
-// The table refused at a question.
-fn refusal(question: u32) -> TypeFacts
-    ensures { result ≡ refused_at question }
-{
-    let none = [0u8; 6];
-    TypeFacts {
-        refused: question,
-        defaults: none,
-    }
-}
-
-// The questions 8 and 9, in this order, asked of the columns of a table.
+// The questions 8 and 9, in this order, asked of the columns of a table; the variant of each type's default.
 fn questions(
     many: usize,
     variants: &[u8; 6],
     first: &[u8; 6],
     arities: &[u8; 48],
     sorts: &[u8; 144],
-) -> TypeFacts
+) -> Result<[u8; 6], Question>
     requires { InRange many variants.now first.now arities.now sorts.now }
     ensures { result ≡ type_facts (types_in many variants.now first.now arities.now sorts.now) }
 {
     let settled = defaults::default_variants(many, variants, first, arities, sorts);
     if !defaults::all_settled(many, &settled) {
-        return refusal(8);
+        return Err(Question::NoDefault);
     }
     let finite = finite::finite_types(many, variants, first, arities, sorts);
     if !all_growing(many, variants, first, arities, sorts, &finite) {
-        return refusal(9);
+        return Err(Question::NoInfiniteField);
     }
-    TypeFacts {
-        refused: 0,
-        defaults: settled,
-    }
+    Ok(settled)
 }
 
 // The questions 8 and 9, and the variant of each type's default where both get a yes.
-pub fn type_facts(table: TypeTable) -> TypeFacts
+pub fn type_facts(table: TypeTable) -> Result<[u8; 6], Question>
     requires { TypesInRange table }
     ensures { result ≡ type_facts (types_of table) }
 {

@@ -27,7 +27,7 @@ use Rattle.guard.specs.WellFormed.{LiteralFits, RowFits, WellFormed}
 use Rattle.guard.proofs.Reading.{Ends, Reads, ends_bind, fold_unfold, reads-after, reads-asked, reads_bind, reads-return, reads_times, reads-unsigned, reads-unsigned_of, reads_weaken}
 
 module _ {A : Type 0} where
-  abbrev And : (A → Type 0) → ℕ → A → ℕ → Type 0
+  abbrev pub And : (A → Type 0) → ℕ → A → ℕ → Type 0
   And P most a u = P a × (u ≤ most)
 
 -- ---- counts, names and kinds take one byte
@@ -58,7 +58,7 @@ VariantFits many fs = (length fs ≤ field_limit) × All (λ f. f < many) fs
 abbrev pub TypeFits : ℕ → List Variant → Type 0
 TypeFits many vs = (length vs ≤ variant_limit) × All (VariantFits many) vs
 
-reads-variant : (many : ℕ) → many ≤ 128 → Reads (variant many) (And (VariantFits many) 4)
+pub reads-variant : (many : ℕ) → many ≤ 128 → Reads (variant many) (And (VariantFits many) 4)
 reads-variant many small =
     reads_bind (count field_limit) _ (And (λ n. n ≤ field_limit) 1) (And (VariantFits many) 4) (reads-count field_limit (omega arith))
     (λ f u h. reads_weaken (times f (name many)) (λ xs w. (length xs ≡ f) × All (λ i. i < many) xs × (w ≤ f * 1)) (λ xs w. VariantFits many xs × (u + w ≤ 4))
@@ -69,10 +69,10 @@ abbrev pub variants_in : Types → List Variant
 variants_in ts = concat_map (λ vs. vs) ts
 
 -- types behind others with so many variants: each takes a byte, and each variant at most four
-abbrev TypesFit : ℕ → ℕ → ℕ → Types → ℕ → Type 0
+abbrev pub TypesFit : ℕ → ℕ → ℕ → Types → ℕ → Type 0
 TypesFit left many total ts u = (length ts ≡ left) × All (TypeFits many) ts × (total + length (variants_in ts) ≤ total_variant_limit) × (u + 4 * total ≤ left + 4 * total_variant_limit)
 
-reads-types : (left many total : ℕ) → many ≤ 128 → total ≤ total_variant_limit → Reads (types left many total) (TypesFit left many total)
+pub reads-types : (left many total : ℕ) → many ≤ 128 → total ≤ total_variant_limit → Reads (types left many total) (TypesFit left many total)
 reads-types zero many total small fit = reads-return [] (TypesFit 0 many total) (refl, none, omega arith, omega arith)
 reads-types (suc left) many total small fit =
     reads_bind unsigned _ (λ n u. (n ≤ width32.most) × (u ≤ 5) × (n < 128 → u ≤ 1)) (Good (λ z. z)) reads-unsigned

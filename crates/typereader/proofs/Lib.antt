@@ -1,4 +1,3 @@
-pub mod TidyTypes
 pub mod Midway
 pub mod Stored
 pub mod Readers

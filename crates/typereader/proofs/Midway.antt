@@ -13,8 +13,7 @@ use Rattle.guard.specs.Types.{Types, Variant}
 use Rattle.guard.proofs.Repeats.{after, after_none, types-next, types_stop_count, types_stop_variants, variant_count}
 use Rattle.tables.specs.Layout.{flat}
 use Rattle.typereader.specs.TypeReader.{one_type}
-use Rattle.numbers.proofs.Tidy.{tidy_times}
-use Rattle.variantreader.proofs.TidyVariants.{VariantFits, tidy_variant}
+use Rattle.variantreader.proofs.Parsers.{no_value, times-length}
 
 -- t of the types are read, the types ts
 pub record TypesMidway (many : ℕ) (bytes : List ℕ) (at t next : ℕ) (ts : Types) : Type 0 where
@@ -30,17 +29,17 @@ flat-more (us ∷ ts) vs = ap (λ (l : List Variant). us ++ l) (flat-more ts vs)
 
 -- a type is its count of variants, and then they
 module _ (many total : ℕ) (bs : List ℕ) where
-  record Counted (vs : List Variant) (rest : List ℕ) : Type 0 where
-    v : ℕ
-    mid : List ℕ
-    count : variant_count total bs ≡ accepted v mid
-    variants : times v (variant many) mid ≡ accepted vs rest
+  pub record Counted (vs : List Variant) (rest : List ℕ) : Type 0 where
+    pub v : ℕ
+    pub mid : List ℕ
+    pub count : variant_count total bs ≡ accepted v mid
+    pub variants : times v (variant many) mid ≡ accepted vs rest
 
-  counted : (vs : List Variant) (rest : List ℕ) → one_type many total bs ≡ accepted vs rest → Counted vs rest
+  pub counted : (vs : List Variant) (rest : List ℕ) → one_type many total bs ≡ accepted vs rest → Counted vs rest
   counted vs rest e = go (variant_count total bs) refl e
     where
       go : (r : Parsed ℕ) → variant_count total bs ≡ r → and_then (λ v. times v (variant many)) r ≡ accepted vs rest → Counted vs rest
-      go (refused q) h f = let z : ◌≡◌ {A = ℕ} 0 1 = cc in absurd (omega arith)
+      go (refused q) h f = no_value f
       go (accepted v mid) h f = record { v = v; mid = mid; count = h; variants = f }
 
   -- types that begin with one that is refused
@@ -55,7 +54,7 @@ module _ (many total : ℕ) (bs : List ℕ) where
       → after ts (types (suc left) many total bs) ≡ after (ts ++ (vs ∷ [])) (types left many (total + length vs) rest)
   type-passes left ts vs rest fit e =
       let c = counted vs rest e in
-      let l : length vs ≡ c.v = ((tidy_times c.v (variant many) (VariantFits many) (tidy_variant many)).gives c.mid vs rest c.variants).0 in
+      let l : length vs ≡ c.v = times-length (variant many) c.v c.mid vs rest c.variants in
       types-next left many total fit ts bs c.v c.mid c.count vs rest c.variants
       ∙ ap (λ (k : ℕ). after (ts ++ (vs ∷ [])) (types left many (total + k) rest)) (sym l)
 

@@ -1,79 +1,80 @@
--- For callers: what the answer of `read_types` says of the parser of the types part. Where it refuses nothing, the parser
--- accepts types and leaves the bytes from the answer's cursor on; the table holds these types, and its numbers are in range.
--- Where it refuses, the parser refuses with the same question. Assumes nothing.
+-- For callers: what the table that `read_types` answers says of the parser of the types part. The parser accepts types, the table
+-- holds them, and its numbers are in range. Assumes nothing.
 use mathlib.Core.Path.{◌≡◌, refl, ap, sym, subst, ◌∙◌}
 use mathlib.Core.List.{List, [], ◌∷◌}
-use Prim.Native.Nat.{ℕ, zero, suc, ◌≤◌}
+use Prim.Native.Nat.{ℕ, suc, ◌≤◌}
 use native.Mathlib.Omega.{arith}
 use lib.ListN.{length, drop}
 use Rattle.laws.specs.All.{All, All.more, All.none}
 use Rattle.laws.proofs.Lists.{all_append, all_weaken}
-use Rattle.guard.specs.Limits.{variant_limit}
-use Rattle.guard.specs.Number.{Parsed.accepted, Parsed.refused}
-use Rattle.guard.specs.Types.{Types, variants_of}
+use Rattle.guard.specs.File.{count, types}
+use Rattle.guard.specs.Limits.{total_variant_limit}
+use Rattle.guard.specs.Number.{Parsed, Parsed.accepted, Parsed.refused, and_then}
+use Rattle.guard.specs.Types.{Types}
+use Rattle.guard.proofs.Accepted.{TypeFits, VariantFits, reads-types, types-at}
+use Rattle.guard.proofs.Reading as parsers
 use Rattle.tables.specs.Layout.{TypesInRange, flat, type_table, types_of}
-use Rattle.typereader.specs.TypeReader.{as_types, no_types, types_at, types_part}
-use Rattle.numbers.proofs.Tidy.{Answer, answer-refused, answered}
-use Rattle.typereader.proofs.TidyTypes.{TypesFit, tidy_part}
-use Rattle.variantreader.proofs.TidyVariants.{VariantFits}
+use Rattle.tables.specs.declared.TypeTable.{TypeTable}
 use Rattle.tables.proofs.TypesBack.{table_in_range, types-back}
-use Rattle.typereader.specs.declared.TypesRead.{TypesRead}
+use Rattle.numbers.specs.Reader.{Found}
+use Rattle.typereader.specs.TypeReader.{table_by, types_part}
+use Rattle.variantreader.proofs.Parsers.{below-small, count-is, mapped, mapped_stop, no_value}
 
 -- ---- types that fit
-fits-at : (many : ℕ) (ts : Types) → All (λ vs. (length vs ≤ variant_limit) × All (VariantFits many) vs) ts → (t : ℕ) → length (variants_of ts t) ≤ variant_limit
-fits-at many [] none t = omega arith
-fits-at many (vs ∷ ts) (more a bs) zero = a.0
-fits-at many (vs ∷ ts) (more a bs) (suc t) = fits-at many ts bs t
 
-fits-flat : (many : ℕ) (ts : Types) → All (λ vs. (length vs ≤ variant_limit) × All (VariantFits many) vs) ts → All (VariantFits many) (flat ts)
+fits-flat : (many : ℕ) (ts : Types) → All (TypeFits many) ts → All (VariantFits many) (flat ts)
 fits-flat many [] none = none
 fits-flat many (vs ∷ ts) (more a bs) = all_append a.1 (fits-flat many ts bs)
 
-pub types-range : {limit many : ℕ} {ts : Types} → limit ≤ 6 → many ≤ limit → TypesFit many many 0 ts → TypesInRange (type_table ts)
-types-range {limit} {many} {ts} few h f =
-    let g : TypesFit (length ts) (length ts) 0 ts = subst (λ (k : ℕ). TypesFit k k 0 ts) (sym f.0) f in
-    table_in_range ts (omega (arith, f.0, h)) (fits-at (length ts) ts g.2) (omega (arith, g.1)) (fits-flat (length ts) ts g.2)
+-- what the parser accepts
+pub record TypesFit (limit : ℕ) (ts : Types) : Type 0 where
+  pub few : length ts ≤ limit
+  pub total : length (flat ts) ≤ total_variant_limit
+  pub each : All (TypeFits (length ts)) ts
+
+module _ (limit : ℕ) (bytes : List ℕ) (ts : Types) (rest : List ℕ) (small : limit ≤ 6) where
+  pub types-fit : types_part limit bytes ≡ accepted ts rest → TypesFit limit ts
+  unfolding parsers.Reads
+  types-fit e = go (count limit bytes) refl e
+    where
+      go : (r : Parsed ℕ) → count limit bytes ≡ r → and_then (λ many. types many many 0) r ≡ accepted ts rest → TypesFit limit ts
+      go (refused q) h f = no_value f
+      go (accepted many mid) h f =
+          let l : many ≤ limit = omega (arith, below-small (suc limit) 4 bytes many mid (sym (count-is limit bytes) ∙ h)) in
+          let (u, w, fit) = reads-types many many 0 (omega arith) (omega arith) mid ts rest f in
+          record { few = omega (arith, fit.0); total = omega (arith, fit.2); each = subst (λ (k : ℕ). All (TypeFits k) ts) (sym fit.0) fit.1 }
+
+  pub types-range : types_part limit bytes ≡ accepted ts rest → TypesInRange (type_table ts)
+  types-range e =
+      let f = types-fit e in
+      table_in_range ts (omega (arith, f.few)) (λ t. (types-at (length ts) ts f.each t).0) f.total (fits-flat (length ts) ts f.each)
 
 -- ---- the answer
 
-pub record TypesFound (bytes : List ℕ) (limit : ℕ) (r : TypesRead) : Type 0 where
+pub record TypesFound (bytes : List ℕ) (limit : ℕ) (table : TypeTable) (at : ℕ) : Type 0 where
   pub ts : Types
-  pub parsed : types_part limit bytes ≡ accepted ts (drop r.at bytes)
-  pub within : r.at ≤ length bytes
-  pub table : r.table ≡ type_table ts
-  pub few : length ts ≤ limit
-  pub fit : TypesFit (length ts) (length ts) 0 ts
-  pub range : TypesInRange r.table
-  pub back : types_of r.table ≡ ts
+  pub parsed : types_part limit bytes ≡ accepted ts (drop at bytes)
+  pub within : at ≤ length bytes
+  pub is : table ≡ type_table ts
+  pub fit : TypesFit limit ts
+  pub range : TypesInRange table
+  pub back : types_of table ≡ ts
 
-module _ (bytes : List ℕ) (limit : ℕ) (r : TypesRead) (is : r ≡ types_at bytes limit) where
-  abbrev Fit : Types → Type 0
-  Fit ts = (many : ℕ) × (many ≤ limit) × TypesFit many many 0 ts
-
-  answer : r.refused ≡ 0 → Answer (types_part limit) Fit bytes 0 (as_types bytes) r.at r
-  unfolding types_at as_types no_types
-  answer z = answered (types_part limit) Fit (tidy_part limit) bytes 0 (as_types bytes) (λ x. x.at) (λ x. x.refused) (λ q. refl) (λ a rest. (refl, refl)) r is z
-
-  pub types-refused : ¬ (r.refused ≡ 0) → types_part limit bytes ≡ refused r.refused
-  unfolding types_at as_types no_types
-  types-refused z = answer-refused (types_part limit) Fit (tidy_part limit) bytes 0 (as_types bytes) (λ x. x.at) (λ x. x.refused) (λ q. refl) (λ a rest. (refl, refl)) r is z
-
-  pub types-found : limit ≤ 6 → r.refused ≡ 0 → TypesFound bytes limit r
-  unfolding as_types
-  types-found small z =
-      let a = answer z in
-      let ts : Types = a.value in
-      let (many, h, f) = a.good in
-      let g : TypesFit (length ts) (length ts) 0 ts = subst (λ (k : ℕ). TypesFit k k 0 ts) (sym f.0) f in
-      let e : r.table ≡ type_table ts = ap (λ (x : TypesRead). x.table) a.is in
-      let fields : All (VariantFits (length ts)) (flat ts) = fits-flat (length ts) ts g.2 in
+module _ (bytes : List ℕ) (limit : ℕ) where
+  pub types-found : limit ≤ 6 → (table : TypeTable) (at : ℕ) → Found (table_by limit bytes) bytes table at → TypesFound bytes limit table at
+  types-found small table at f =
+      let m = mapped type_table (types_part limit bytes) table (drop at bytes) f.accepts in
+      let ts : Types = m.value in
+      let fit = types-fit limit bytes ts (drop at bytes) small m.accepts in
       record {
         ts = ts;
-        parsed = a.parsed;
-        within = a.within;
-        table = e;
-        few = omega (arith, f.0, h);
-        fit = g;
-        range = subst TypesInRange (sym e) (types-range small h f);
-        back = ap types_of e ∙ types-back ts (all_weaken (λ fs p. p.0) fields);
+        parsed = m.accepts;
+        within = f.within;
+        is = sym m.is;
+        fit = fit;
+        range = subst TypesInRange m.is (types-range limit bytes ts (drop at bytes) small m.accepts);
+        back = ap types_of (sym m.is) ∙ types-back ts (all_weaken (λ fs p. p.0) (fits-flat (length ts) ts fit.each));
       }
+
+  pub types-refused : (q : ℕ) → table_by limit bytes ≡ refused q → types_part limit bytes ≡ refused q
+  types-refused q e = mapped_stop type_table (types_part limit bytes) q e

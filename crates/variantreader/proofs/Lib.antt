@@ -1,4 +1,4 @@
-pub mod TidyVariants
+pub mod Parsers
 pub mod Midway
 pub mod Stored
 pub mod Readers

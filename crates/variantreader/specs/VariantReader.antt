@@ -1,47 +1,30 @@
 -- What reading variants gives, in terms of the parsers of the guard file. Assumes nothing: definitions.
-use Rattle.std.specs.Prelude.{◌≡◌, List, [], ◌++◌, map, ℕ, ◌+◌, ◌-◌, ◌≤◌, length, drop, get_or, set}
+use Rattle.std.specs.Prelude.{◌≡◌, List, ◌++◌, map, ℕ, ◌+◌, ◌≤◌, length, get_or, set}
 use Rattle.laws.specs.All.{All}
 use Rattle.laws.specs.Lists.{concat_map}
-use Rattle.guard.specs.Types.{Variant}
-use Rattle.guard.specs.Number.{Parsed, Parsed.accepted, Parsed.refused, Parser, times}
+use Rattle.guard.specs.Types as guard
+use Rattle.guard.specs.Number.{Parsed.accepted, Parser, ◌>>=◌, return, times}
 use Rattle.guard.specs.File.{name, variant}
 use Rattle.tables.specs.Layout.{pad}
-use Rattle.variantreader.specs.declared.Sorts.{Sorts}
-use Rattle.variantreader.specs.declared.VariantRead.{VariantRead}
-use Rattle.variantreader.specs.declared.Place.{Place}
+use Rattle.variantreader.specs.declared.Variant.{Variant}
 
--- the cursor where the bytes left begin
-abbrev pub cursor : List ℕ → List ℕ → ℕ
-cursor bytes rest = length bytes - length rest
+-- ---- parsers of what is stored
 
--- ---- the types of fields
+-- the types of a variant's fields, filled up with zeros
+abbrev pub sorts_by : ℕ → ℕ → Parser (List ℕ)
+sorts_by arity many = times arity (name many) >>= λ fs. return (pad 3 fs)
 
-abbrev pub no_sorts : ℕ → Sorts
-no_sorts q = record { refused = q; at = 0; sorts = pad 3 [] }
+abbrev pub variant_by : ℕ → Parser Variant
+variant_by many = variant many >>= λ fs. return (record { arity = length fs; sorts = pad 3 fs })
 
-abbrev pub as_sorts : List ℕ → Parsed (List ℕ) → Sorts
-as_sorts bytes (refused q) = no_sorts q
-as_sorts bytes (accepted fs rest) = record { refused = 0; at = cursor bytes rest; sorts = pad 3 fs }
-
-unfoldable pub sorts_at : List ℕ → ℕ → ℕ → ℕ → Sorts
-sorts_at bytes at arity many = as_sorts bytes (times arity (name many) (drop at bytes))
-
--- ---- a variant
-
-abbrev pub no_variant : ℕ → VariantRead
-no_variant q = record { refused = q; at = 0; arity = 0; sorts = pad 3 [] }
-
-abbrev pub as_variant : List ℕ → Parsed Variant → VariantRead
-as_variant bytes (refused q) = no_variant q
-as_variant bytes (accepted fs rest) = record { refused = 0; at = cursor bytes rest; arity = length fs; sorts = pad 3 fs }
-
-unfoldable pub variant_at : List ℕ → ℕ → ℕ → VariantRead
-variant_at bytes at many = as_variant bytes (variant many (drop at bytes))
+-- variants of which the columns tell
+abbrev pub variants_by : ℕ → ℕ → Parser (Unit {0})
+variants_by n many = times n (variant many) >>= λ vs. return tt
 
 -- ---- variants, stored behind those that are there
 
 -- the two columns hold these variants
-pub record Holds (ws : List Variant) (arities sorts : List ℕ) : Type 0 where
+pub record Holds (ws : List guard.Variant) (arities sorts : List ℕ) : Type 0 where
   pub counts : arities ≡ pad 48 (map length ws)
   pub fields : sorts ≡ pad 144 (concat_map (pad 3) ws)
   pub few : All (λ fs. length fs ≤ 3) ws
@@ -50,14 +33,7 @@ pub record Holds (ws : List Variant) (arities sorts : List ℕ) : Type 0 where
 abbrev pub store_three : List ℕ → ℕ → List ℕ → List ℕ
 store_three xs i three = set (set (set xs i (get_or three 0 0)) (i + 1) (get_or three 1 0)) (i + 2) (get_or three 2 0)
 
-abbrev pub as_place : List ℕ → Parsed (List Variant) → Place
-as_place bytes (refused q) = record { refused = q; at = 0 }
-as_place bytes (accepted vs rest) = record { refused = 0; at = cursor bytes rest }
-
 -- what a parser of variants leaves in the columns, behind the w variants that are there; what they hold after a refusal is
 -- of no use to anybody
-pub record Stores (parser : Parser (List Variant)) (bs : List ℕ) (w : ℕ) (arities sorts arities' sorts' : List ℕ) : Type 0 where
-  pub stored : (ws vs : List Variant) (rest : List ℕ) → w ≡ length ws → Holds ws arities sorts → parser bs ≡ accepted vs rest → Holds (ws ++ vs) arities' sorts'
-
-unfoldable pub variants_at : List ℕ → ℕ → ℕ → ℕ → Place
-variants_at bytes at n many = as_place bytes (times n (variant many) (drop at bytes))
+pub record Stores (parser : Parser (List guard.Variant)) (bs : List ℕ) (w : ℕ) (arities sorts arities' sorts' : List ℕ) : Type 0 where
+  pub stored : (ws vs : List guard.Variant) (rest : List ℕ) → w ≡ length ws → Holds ws arities sorts → parser bs ≡ accepted vs rest → Holds (ws ++ vs) arities' sorts'

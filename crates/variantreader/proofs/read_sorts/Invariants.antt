@@ -1,11 +1,7 @@
 -- The types of the fields, one after another: what is left to read, after those that are read, is the whole, and the column
 -- holds them. Assumes nothing.
-use Prim.Native.Nat.{◌≤◌, ◌-◌}
 use Rattle.variantreader.proofs.Readers.{SomeSorts}
 use Rattle.variantreader.proofs.read_sorts.Given as goal
 
 abbrev pub invariant-loop-i : goal.invariant-loop-i
-invariant-loop-i l = (l.i ≤ l.arity) × SomeSorts l.bytes l.at l.arity l.many l.i l.next l.sorts
-
-abbrev pub decreases-loop-i : goal.decreases-loop-i
-decreases-loop-i l = l.arity - l.i
+invariant-loop-i l = SomeSorts l.bytes l.at l.arity l.many l.i l.next l.sorts
