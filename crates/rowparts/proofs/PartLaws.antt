@@ -10,6 +10,7 @@ use lib.Seq.{get_or-take, length-take-le}
 use borrow.Author.Tests.{eq-eqb, ne_eqb}
 use Rattle.guard.specs.Number.{Parsed, Parsed.accepted, Parsed.refused, Parser, ◌>>=◌, ◌>>◌, and_then, ask, return}
 use Rattle.numbers.specs.Reader.{below}
+use Rattle.rowparts.proofs.BelowLaws.{below-small}
 use Rattle.rowparts.specs.ByTypes.{parts_by}
 use Rattle.rowparts.specs.RowParts.{fields_from, padded_parts}
 use Rattle.tables.specs.Layout.{pad}
@@ -74,13 +75,13 @@ module _ (bytes : List ℕ) (at rows : ℕ) (types sorts : List ℕ) (w arity : 
       pub part_stops : (q : ℕ) → below rows 5 (drop next bytes) ≡ refused q → whole ≡ refused q
       part_stops q e = one_more ∙ ap (λ r. behind s.got (and_then part_after r)) e
 
-      module _ (p to : ℕ) (read : below rows 5 (drop next bytes) ≡ accepted p (drop to bytes)) (small : p < rows) where
+      module _ (p to : ℕ) (read : below rows 5 (drop next bytes) ≡ accepted p (drop to bytes)) where
         on-part : whole ≡ behind s.got (part_after p (drop to bytes))
         on-part = one_more ∙ ap (λ r. behind s.got (and_then part_after r)) read
 
         -- the type of the part
         typed : get_or us p 0 ≡ get_or types p 0
-        typed = get_or-take rows types p 0 small
+        typed = get_or-take rows types p 0 (below-small rows 5 p (drop next bytes) (drop to bytes) read)
 
         abbrev asked : Bool → Parsed (List ℕ)
         asked b = behind s.got ((ask 7 b >> (parts_by us (fields_from sorts w (arity - suc j) (suc j)) >>= λ ps. return (p ∷ ps))) (drop to bytes))

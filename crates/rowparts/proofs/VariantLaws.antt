@@ -11,6 +11,7 @@ use Rattle.guard.specs.File.{name}
 use Rattle.guard.specs.Number.{Parsed, Parsed.accepted, Parsed.refused, Parser, ◌>>=◌, and_then, return}
 use Rattle.guard.specs.Types.{Types, Variant, field_type, fields_of, variants_of}
 use Rattle.numbers.specs.Reader.{below}
+use Rattle.rowparts.proofs.BelowLaws.{below-small}
 use Rattle.rowparts.specs.ByTypes.{built_of, field_of, parts_by}
 use Rattle.rowparts.specs.RowParts.{as_row, fields_from, padded_parts, row_with, variant_number}
 use Rattle.tables.specs.Layout.{pad, types_of}
@@ -24,9 +25,9 @@ parts-built : (ts : Types) (t v : ℕ) (r : Parsed (List ℕ))
 parts-built ts t v (refused q) = refl
 parts-built ts t v (accepted ps rest) = refl
 
-module _ (table : TypeTable) (bytes : List ℕ) (at t n : ℕ) (typed : t < table.many) (counted : n ≡ length (variants_of (types_of table) t)) (v to : ℕ) (read : below n 5 (drop at bytes) ≡ accepted v (drop to bytes)) (small : v < n) (w : ℕ) (number : w ≡ variant_number table t v) where
+module _ (table : TypeTable) (bytes : List ℕ) (at t n : ℕ) (typed : t < table.many) (counted : n ≡ length (variants_of (types_of table) t)) (v to : ℕ) (read : below n 5 (drop at bytes) ≡ accepted v (drop to bytes)) (w : ℕ) (number : w ≡ variant_number table t v) where
   in_variants : v < get_or table.variants t 0
-  in_variants = omega (arith, held-variants table t typed)
+  in_variants = omega (arith, held-variants table t typed, below-small n 5 v (drop at bytes) (drop to bytes) read)
 
   fields-are : fields_of (types_of table) t v ≡ fields_from table.sorts w (get_or table.arities w 0) 0
   fields-are = held-fields table t typed v in_variants ∙ ap (λ (w : ℕ). fields_from table.sorts w (get_or table.arities w 0) 0) (sym number)

@@ -8,8 +8,7 @@ use Rattle.rowparts.proofs.field_of.Goals as goal
 pub returns-in_err-p : goal.returns-in_err-p
 returns-in_err-p c = let a = c.args in
     let v = c.in_ok-v in
-    let small = below-small c.variants_of.result 5 v.v.value (drop a.at a.bytes.now) _ v.ensures.accepts in
-    let left = position-left a.table a.bytes.now a.at a.t c.variants_of.result c.requires.1 c.variants_of.ensures v.v.value v.v.at v.ensures.accepts small c.variant_number-w.result c.variant_number-w.ensures.number a.term in
+    let left = position-left a.table a.bytes.now a.at a.t c.variants_of.result c.requires.1 c.variants_of.ensures v.v.value v.v.at v.ensures.accepts c.variant_number-w.result c.variant_number-w.ensures.number a.term in
     let p = err_from_is_err_and c.from_residual-in_err-p.result c.from_residual-in_err-p.ensures.1 in
     rw (p.1, p.2, left, c.in_err-p.ensures) refl
 
@@ -17,8 +16,7 @@ pub returns : goal.returns
 returns c = let a = c.args in
     let v = c.in_ok-v in
     let p = c.in_ok-p in
-    let small = below-small c.variants_of.result 5 v.v.value (drop a.at a.bytes.now) _ v.ensures.accepts in
-    let left = position-left a.table a.bytes.now a.at a.t c.variants_of.result c.requires.1 c.variants_of.ensures v.v.value v.v.at v.ensures.accepts small c.variant_number-w.result c.variant_number-w.ensures.number a.term in
+    let left = position-left a.table a.bytes.now a.at a.t c.variants_of.result c.requires.1 c.variants_of.ensures v.v.value v.v.at v.ensures.accepts c.variant_number-w.result c.variant_number-w.ensures.number a.term in
     let placed = below-small (get_or a.table.arities c.variant_number-w.result 0) 5 p.p.value (drop v.v.at a.bytes.now) _ p.ensures.accepts in
-    let sort = field-sort a.table a.bytes.now a.at a.t c.variants_of.result c.requires.1 c.variants_of.ensures v.v.value v.v.at v.ensures.accepts small c.variant_number-w.result c.variant_number-w.ensures.number p.p.value placed in
+    let sort = field-sort a.table a.bytes.now a.at a.t c.variants_of.result c.requires.1 c.variants_of.ensures v.v.value v.v.at v.ensures.accepts c.variant_number-w.result c.variant_number-w.ensures.number p.p.value placed in
     record { accepts = rw (left, p.ensures.accepts, sort) refl; within = p.ensures.within }

@@ -1,5 +1,4 @@
 -- `read_parts` meets its contract. Assumes nothing.
-use Rattle.std.proofs.Common.{◌<◌, arith, rules}
 use Rattle.std.proofs.lemmas.Result.{err_from_is_err_and}
 use Rattle.rowparts.proofs.PartLaws.{part-next, part_stops, part_unlike}
 use Rattle.rowparts.proofs.read_parts.Goals as goal
@@ -15,14 +14,12 @@ pub returns-then-types-p : goal.returns-then-types-p
 returns-then-types-p c = let a = c.args in
     let l = c.loop-j in
     let p = c.in_ok-p in
-    let small : p.p.value < a.rows = search rules in
     part_unlike a.bytes.now a.at a.rows a.types.now a.sorts.now a.w a.arity l.parts l.next l.j l.invariant c.requires.few c.requires.long c.loop-j-test.true
-    p.p.value p.p.at p.ensures.accepts small c.if-types-p.true
+    p.p.value p.p.at p.ensures.accepts c.if-types-p.true
 
 pub loop-j-preserved : goal.loop-j-preserved
 loop-j-preserved c = let a = c.args in
     let l = c.loop-j in
     let p = c.in_ok-p in
-    let small : p.p.value < a.rows = grind (arith, p.ensures) in
     part-next a.bytes.now a.at a.rows a.types.now a.sorts.now a.w a.arity l.parts l.next l.j l.invariant c.requires.few c.requires.long c.loop-j-test.true
-    p.p.value p.p.at p.ensures.accepts small c.if-types-p.false c.requires.in_fields p.ensures.within
+    p.p.value p.p.at p.ensures.accepts c.if-types-p.false c.requires.in_fields p.ensures.within
