@@ -1,2 +1,2 @@
-pub mod TidyRow
-pub mod Answers
+pub mod RowLaws
+pub mod KindLaws

@@ -2,76 +2,69 @@
 // variant and parts; or the term, variant and position of a field read.
 #![tactic(auto)]
 
-ghost use Rattle.std.specs.Prelude.{◌≡◌, take};
+ghost use Rattle.std.specs.Prelude.{◌<◌, drop, take};
+ghost use Rattle.std.specs.Result.{IfOk};
+ghost use Rattle.numbers.specs.Reader.{Reads};
 ghost use Rattle.tables.specs.Layout.{TypesInRange, types_of};
-ghost use Rattle.rowparts.specs.ByTypes.{variable_row, constant_row, built_row, field_row};
+ghost use Rattle.rowparts.specs.ByTypes.{variable_row, constant_row, built_row, field_row, row_by, variant_term_by};
 ghost use Rattle.rowparts.specs.RowParts.{Before, row_with};
-ghost use Rattle.rowkinds.specs.RowKinds.{variant_term_at, row_read_at};
 
-use numbers::Number;
-use rowparts::RowRead;
+use guard::Question;
+use numbers::{Read, read_below};
+use rowparts::Row;
 use tables::TypeTable;
 
-fn read_variable(bytes: &[u8], at: usize, table: TypeTable) -> RowRead
+fn read_variable(bytes: &[u8], at: usize, table: TypeTable) -> Result<Read<Row>, Question>
     requires { TypesInRange table }
-    ensures { result ≡ row_with (types_of table) bytes.now at (variable_row (types_of table)) }
+    ensures { Reads (row_with (types_of table) (variable_row (types_of table)) (drop at bytes.now)) bytes.now result }
 {
-    let many = table.many as u32;
-    let t = numbers::read_below(bytes, at, many, 5);
-    if t.refused != 0 {
-        return rowparts::refuse_row(t.refused);
-    }
-    let none = [0u8; 3];
-    RowRead {
-        refused: 0,
+    let t = read_below(bytes, at, table.many as u32, Question::UnknownName)?;
+    Ok(Read {
+        value: Row {
+            sort: t.value as u8,
+            variant: 0,
+            parts: [0u8; 3],
+            value: 0,
+        },
         at: t.at,
-        sort: t.value as u8,
-        variant: 0,
-        parts: none,
-        value: 0,
-    }
+    })
 }
 
-fn read_constant(bytes: &[u8], at: usize, table: TypeTable) -> RowRead
+fn read_constant(bytes: &[u8], at: usize, table: TypeTable) -> Result<Read<Row>, Question>
     requires { TypesInRange table }
-    ensures { result ≡ row_with (types_of table) bytes.now at (constant_row (types_of table)) }
+    ensures { Reads (row_with (types_of table) (constant_row (types_of table)) (drop at bytes.now)) bytes.now result }
 {
-    let many = table.many as u32;
-    let t = numbers::read_below(bytes, at, many, 5);
-    if t.refused != 0 {
-        return rowparts::refuse_row(t.refused);
-    }
+    let t = read_below(bytes, at, table.many as u32, Question::UnknownName)?;
     let variants = rowparts::variants_of(table, t.value as usize);
     if variants != 0 {
-        return rowparts::refuse_row(7);
+        return Err(Question::TypeMismatch);
     }
-    let n = values::read_value(bytes, t.at);
-    if n.refused != 0 {
-        return rowparts::refuse_row(n.refused);
-    }
-    let none = [0u8; 3];
-    RowRead {
-        refused: 0,
+    let n = values::read_value(bytes, t.at)?;
+    Ok(Read {
+        value: Row {
+            sort: t.value as u8,
+            variant: 0,
+            parts: [0u8; 3],
+            value: n.value,
+        },
         at: n.at,
-        sort: t.value as u8,
-        variant: 0,
-        parts: none,
-        value: n.value,
-    }
+    })
 }
 
-fn read_built(bytes: &[u8], at: usize, rows: usize, types: &[u8; 24], table: TypeTable) -> RowRead
+fn read_built(
+    bytes: &[u8],
+    at: usize,
+    rows: usize,
+    types: &[u8; 24],
+    table: TypeTable,
+) -> Result<Read<Row>, Question>
     requires { TypesInRange table × Before table rows types.now }
-    ensures { result ≡ row_with (types_of table) bytes.now at (built_row (types_of table) (take rows types.now)) }
+    ensures { Reads (row_with (types_of table) (built_row (types_of table) (take rows types.now)) (drop at bytes.now)) bytes.now result }
 {
-    let many = table.many as u32;
-    let t = numbers::read_below(bytes, at, many, 5);
-    if t.refused != 0 {
-        return rowparts::refuse_row(t.refused);
-    }
+    let t = read_below(bytes, at, table.many as u32, Question::UnknownName)?;
     let variants = rowparts::variants_of(table, t.value as usize);
     if variants == 0 {
-        return rowparts::refuse_row(7);
+        return Err(Question::TypeMismatch);
     }
     rowparts::built_of(bytes, t.at, rows, types, table, t.value as usize)
 }
@@ -83,36 +76,32 @@ fn read_variant_term(
     rows: usize,
     types: &[u8; 24],
     table: TypeTable,
-) -> Number
+) -> Result<Read<u32>, Question>
     requires { TypesInRange table × Before table rows types.now }
-    ensures { result ≡ variant_term_at bytes.now at (types_of table) (take rows types.now) }
+    ensures term { Reads (variant_term_by (types_of table) (take rows types.now) (drop at bytes.now)) bytes.now result }
+    ensures earlier { IfOk result (λ r. r.value < rows) }
 {
-    let a = numbers::read_below(bytes, at, rows as u32, 5);
-    if a.refused != 0 {
-        return a;
-    }
-    let term = a.value as usize;
-    let variants = rowparts::variants_of(table, types[term] as usize);
+    let a = read_below(bytes, at, rows as u32, Question::UnknownName)?;
+    let variants = rowparts::variants_of(table, types[a.value as usize] as usize);
     if variants == 0 {
-        return Number {
-            refused: 7,
-            value: 0,
-            at: 0,
-        };
+        return Err(Question::TypeMismatch);
     }
-    a
+    Ok(a)
 }
 
-fn read_field(bytes: &[u8], at: usize, rows: usize, types: &[u8; 24], table: TypeTable) -> RowRead
+fn read_field(
+    bytes: &[u8],
+    at: usize,
+    rows: usize,
+    types: &[u8; 24],
+    table: TypeTable,
+) -> Result<Read<Row>, Question>
     requires { TypesInRange table × Before table rows types.now }
-    ensures { result ≡ row_with (types_of table) bytes.now at (field_row (types_of table) (take rows types.now)) }
+    ensures { Reads (row_with (types_of table) (field_row (types_of table) (take rows types.now)) (drop at bytes.now)) bytes.now result }
 {
-    let a = read_variant_term(bytes, at, rows, types, table);
-    if a.refused != 0 {
-        return rowparts::refuse_row(a.refused);
-    }
-    let term = a.value as usize;
-    rowparts::field_of(bytes, a.at, table, types[term] as usize, a.value as u8)
+    let a = read_variant_term(bytes, at, rows, types, table)?;
+    let t = types[a.value as usize] as usize;
+    rowparts::field_of(bytes, a.at, table, t, a.value as u8)
 }
 
 // A row of the kind given.
@@ -123,9 +112,9 @@ pub fn read_row(
     rows: usize,
     types: &[u8; 24],
     table: TypeTable,
-) -> RowRead
+) -> Result<Read<Row>, Question>
     requires { TypesInRange table × Before table rows types.now }
-    ensures { result ≡ row_read_at bytes.now at (types_of table) (take rows types.now) kind }
+    ensures { Reads (row_with (types_of table) (row_by (types_of table) (take rows types.now) kind) (drop at bytes.now)) bytes.now result }
 {
     if kind == 0 {
         return read_variable(bytes, at, table);

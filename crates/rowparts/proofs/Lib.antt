@@ -1,3 +1,3 @@
-pub mod TidyParts
 pub mod PartLaws
-pub mod Answers
+pub mod VariantLaws
+pub mod BelowLaws

@@ -1,13 +1,13 @@
 -- A row at a cursor, and the parts of a built row, in terms of the parsers of the guard file. Assumes nothing: definitions.
-use Rattle.std.specs.Prelude.{◌≡◌, List, [], ◌∷◌, map, ℕ, ◌+◌, ◌*◌, ◌-◌, ◌≤◌, ◌<◌, pos, length, drop, get_or}
+use Rattle.std.specs.Prelude.{◌≡◌, List, map, ℕ, ◌+◌, ◌*◌, ◌≤◌, ◌<◌, length, get_or}
 use Rattle.laws.specs.Lists.{from}
-use Rattle.guard.specs.Guard.{Row, type_of}
-use Rattle.guard.specs.Number.{Parsed, Parsed.accepted, Parsed.refused, Parser}
+use Rattle.guard.specs.Guard as guard
+use Rattle.guard.specs.Guard.{type_of}
+use Rattle.guard.specs.Number.{Parser, ◌>>=◌, return}
 use Rattle.guard.specs.Types.{Types, Variant}
 use Rattle.tables.specs.declared.TypeTable.{TypeTable}
 use Rattle.tables.specs.Layout.{pad, row_parts, row_value, row_variant}
-use Rattle.rowparts.specs.declared.PartsRead.{PartsRead}
-use Rattle.rowparts.specs.declared.RowRead.{RowRead}
+use Rattle.rowparts.specs.declared.Row.{Row}
 use Rattle.rowparts.specs.ByTypes.{parts_by}
 
 -- what is known of the rows before: how many there are, and their types, at the front of a column
@@ -26,34 +26,16 @@ variant_number table t v = get_or table.first t 0 + v
 abbrev pub fields_from : List ℕ → ℕ → ℕ → ℕ → Variant
 fields_from sorts w left j = map (λ i. get_or sorts (3 * w + i) 0) (from left j)
 
-abbrev pub no_parts : ℕ → PartsRead
-no_parts q = record { refused = q; at = 0; parts = 0 ∷ 0 ∷ 0 ∷ [] }
-
-abbrev pub as_parts : List ℕ → Parsed (List ℕ) → PartsRead
-as_parts bytes (refused q) = no_parts q
-as_parts bytes (accepted ps rest) = record { refused = 0; at = length bytes - length rest; parts = pad 3 ps }
-
-unfoldable pub parts_at : List ℕ → ℕ → List ℕ → Variant → PartsRead
-parts_at bytes at us fs = as_parts bytes (parts_by us fs (drop at bytes))
+-- the parts in three places
+abbrev pub padded_parts : List ℕ → Variant → Parser (List ℕ)
+padded_parts us fs = parts_by us fs >>= λ ps. return (pad 3 ps)
 
 -- ---- a row
 
--- the question that refused, and nothing else
-abbrev pub no_row_read : ℕ → RowRead
-no_row_read q = record { refused = q; at = 0; sort = 0; variant = 0; parts = 0 ∷ 0 ∷ 0 ∷ []; value = pos 0 }
+-- a row's entries in a table
+abbrev pub as_row : Types → guard.Row → Row
+as_row ts r = record { sort = type_of ts r; variant = row_variant r; parts = pad 3 (row_parts r); value = row_value r }
 
--- what a parser of a row answers at some place of the bytes, with the cursor after the row in place of the bytes left
-abbrev pub as_row : Types → List ℕ → Parsed Row → RowRead
-as_row ts bytes (refused q) = no_row_read q
-as_row ts bytes (accepted row rest) =
-    record {
-      refused = 0;
-      at = length bytes - length rest;
-      sort = type_of ts row;
-      variant = row_variant row;
-      parts = pad 3 (row_parts row);
-      value = row_value row;
-    }
-
-unfoldable pub row_with : Types → List ℕ → ℕ → Parser Row → RowRead
-row_with ts bytes at p = as_row ts bytes (p (drop at bytes))
+-- the entries of the row that a parser accepts
+abbrev pub row_with : Types → Parser guard.Row → Parser Row
+row_with ts p = p >>= λ r. return (as_row ts r)

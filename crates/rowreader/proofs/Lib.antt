@@ -1,4 +1,3 @@
 pub mod SameRows
-pub mod TidyRows
+pub mod Mapped
 pub mod RowLaws
-pub mod RowReaderLaws

@@ -1,40 +1,34 @@
--- Rows, one at a time: what is left to read, after the rows read so far, is the whole, and the table is that of the rows
+-- Rows, one at a time: what is left to read, behind the rows read so far, is the whole, and the table is that of the rows
 -- read so far. Storing a row that was read makes the table of one row more. Assumes nothing.
 use mathlib.Core.Path.{◌≡◌, refl, ap, sym, ◌∙◌, subst}
 use mathlib.Core.List.{List, [], ◌∷◌, ◌++◌, append_assoc, append-nil, map}
 use Prim.Native.Nat.{ℕ, suc, ◌+◌, ◌*◌, ◌-◌, ◌≤◌, ◌<◌}
 use native.Mathlib.Omega.{arith}
-use native.Mathlib.Numerals.{add-one}
 use lib.IntN.{ℤ, pos}
 use lib.ListN.{length, drop, get_or, take, set, length-append}
 use lib.Seq.{take_at}
 use Rattle.laws.specs.All.{All, All.more, All.none}
 use Rattle.laws.specs.Lists.{concat_map}
 use Rattle.laws.proofs.Lists.{all_append, all_get_d, all_weaken, map-length}
-use Rattle.guard.specs.File.{count, kind, row_of, rows}
+use Rattle.guard.specs.File.{kind, row_of, rows}
 use Rattle.guard.specs.Guard.{Row, Row.built, Row.constant, Row.field, Row.variable, no_row, type_of}
-use Rattle.guard.specs.Number.{Parsed, Parsed.refused, and_then}
+use Rattle.guard.specs.Number.{Parsed, Parsed.accepted, Parsed.refused, and_then, return}
 use Rattle.guard.specs.Types.{Types}
 use Rattle.guard.proofs.Repeats.{rows_next, rows_stop_kind, rows_stop_row}
 use Rattle.rowparts.specs.ByTypes.{row_by}
-use Rattle.tables.specs.Layout.{TypesInRange, pad, pad_to, row_kind, row_parts, row_table, row_value, row_variant, types_of}
-use Rattle.numbers.specs.Reader.{below, below_at}
-use Rattle.rowparts.specs.RowParts.{Before, as_row}
-use Rattle.rowreader.specs.RowReader.{as_rows, no_rows, rows_at, rows_from, stored}
-use Rattle.rowkinds.specs.RowKinds.{row_read_at}
-use Rattle.rowparts.proofs.Answers.{found_row}
-use Rattle.tables.proofs.Columns.{pad-at, pad-length, pad-set}
-use Rattle.tables.proofs.Lookups.{map_at, triples_length}
-use Rattle.numbers.proofs.NumberLaws.{Found, below-found, below-refused, count-is}
+use Rattle.rowparts.specs.RowParts.{Before, as_row, row_with}
+use Rattle.rowparts.specs.declared.Row as read
+use Rattle.rowparts.proofs.BelowLaws.{below-small}
+use Rattle.rowkinds.proofs.KindLaws.{RowShape, kind-is, row-shape}
+use Rattle.rowreader.specs.RowReader.{stored, table_with}
+use Rattle.rowreader.proofs.Mapped.{mapped-from, mapped-stops}
 use Rattle.rowreader.proofs.SameRows.{row-by}
-use Rattle.numbers.proofs.Tidy.{Answer, answer-refused, answered, cursor-drop}
-use Rattle.rowkinds.proofs.TidyRow.{RowShape, tidy_row}
-use Rattle.tables.proofs.Held.{fields-few, fields-small, held-many}
-use Rattle.numbers.specs.declared.Number.{Number}
+use Rattle.tables.specs.Layout.{TypesInRange, pad, pad_to, row_kind, row_parts, row_table, row_value, row_variant, types_of}
 use Rattle.tables.specs.declared.TypeTable.{TypeTable}
 use Rattle.tables.specs.declared.RowTable.{RowTable}
-use Rattle.rowparts.specs.declared.RowRead.{RowRead}
-use Rattle.rowreader.specs.declared.RowsRead.{RowsRead}
+use Rattle.tables.proofs.Columns.{pad-at, pad-length, pad-set}
+use Rattle.tables.proofs.Held.{fields-few, fields-small, held-many}
+use Rattle.tables.proofs.Lookups.{map_at, triples_length}
 
 -- ---- the table of one row more
 module _ {A : Type 0} where
@@ -86,9 +80,9 @@ module _ (ts : Types) (rs : List Row) (r : Row) (room : length rs < 24) (few : A
       ∙ ap (λ (q : List ℕ). pad 72 (concat_map (λ r. pad 3 (row_parts r)) rs ++ q)) (sym (three (pad 3 (row_parts r)) (pad-length 0 3 (row_parts r) fits)))
       ∙ ap (pad 72) (sym (concat_map_snoc (λ r. pad 3 (row_parts r)) rs r))
 
-  pub stored_next : (next : ℕ) → stored (row_table ts rs) (row_kind r) (found_row ts r next) ≡ row_table ts (rs ++ (r ∷ []))
+  pub stored_next : stored (row_table ts rs) (row_kind r) (as_row ts r) ≡ row_table ts (rs ++ (r ∷ []))
   unfolding row_table stored
-  stored_next next =
+  stored_next =
       let m : length rs + 1 ≡ length (rs ++ (r ∷ [])) = omega (arith, length-append rs (r ∷ [])) in
       same-table m (column-next row_kind 0 24 rs r room) (column-next (type_of ts) 0 24 rs r room) (column-next row_variant 0 24 rs r room) parts_next (column-next row_value (pos 0) 24 rs r room)
     where
@@ -115,19 +109,6 @@ types-column : (ts : Types) (rs : List Row) → (row_table ts rs).types ≡ pad 
 unfolding row_table
 types-column ts rs = refl
 
--- a row that the code read
-module _ (bytes : List ℕ) (at : ℕ) (ts : Types) (us : List ℕ) (k : ℕ) (r : RowRead) (is : r ≡ row_read_at bytes at ts us k) where
-  abbrev Good : Row → Type 0
-  Good o = RowShape ts o × (k < 4 → row_kind o ≡ k)
-
-  row-given : r.refused ≡ 0 → Answer (row_by ts us k) Good bytes at (as_row ts bytes) r.at r
-  unfolding row_read_at
-  row-given z = answered (row_by ts us k) Good (tidy_row ts us k) bytes at (as_row ts bytes) (λ x. x.at) (λ x. x.refused) (λ q. refl) (λ o rest. (refl, refl)) r is z
-
-  row_not_given : ¬ (r.refused ≡ 0) → row_by ts us k (drop at bytes) ≡ refused r.refused
-  unfolding row_read_at
-  row_not_given z = answer-refused (row_by ts us k) Good (tidy_row ts us k) bytes at (as_row ts bytes) (λ x. x.at) (λ x. x.refused) (λ q. refl) (λ o rest. (refl, refl)) r is z
-
 -- its type is a type, and its parts have three places
 shape-fits : (table : TypeTable) → TypesInRange table → (r : Row) → RowShape (types_of table) r → Fitting (types_of table) r
 shape-fits table range (variable t) h = (h, omega arith)
@@ -138,6 +119,9 @@ shape-fits table range (field t a v p) h = (fields-small table range t v p h, om
 module _ (bytes : List ℕ) (at n : ℕ) (table : TypeTable) where
   abbrev SoFar : RowTable → ℕ → ℕ → Type 0
   SoFar rows next i = RowsSoFar bytes at n (types_of table) rows next i
+
+  abbrev tabled : Parsed (List Row) → Parsed RowTable
+  tabled r = and_then (λ rs. return (row_table (types_of table) rs)) r
 
   pub rows_start : at ≤ length bytes → SoFar (row_table [] []) at 0
   rows_start h =
@@ -151,26 +135,27 @@ module _ (bytes : List ℕ) (at n : ℕ) (table : TypeTable) where
         left = ap (λ (k : ℕ). rows k (types_of table) [] (drop at bytes)) z;
       }
 
-  module _ (range : TypesInRange table) (small : n ≤ 24) (held : RowTable) (next i : ℕ) (s : SoFar held next i) where
-    pub rows-done : i ≡ n → Path RowsRead (record { refused = 0; at = next; rows = held }) (rows_from bytes at n (types_of table))
-    unfolding rows_from
+  abbrev whole : Parsed RowTable
+  whole = table_with (types_of table) (rows n (types_of table) []) (drop at bytes)
+
+  module _ (held : RowTable) (next i : ℕ) (s : SoFar held next i) where
+    pub rows-done : n ≤ i → whole ≡ accepted held (drop next bytes)
     rows-done h =
-        let z : 0 ≡ n - i = omega arith in
-        ap (λ (x : RowTable). record { refused = 0; at = next; rows = x }) s.is
-        ∙ ap (λ (k : ℕ). record { refused = 0; at = k; rows = row_table (types_of table) s.got }) (sym (cursor-drop bytes next s.within))
-        ∙ ap (as_rows (types_of table) bytes) (ap (λ (k : ℕ). rows k (types_of table) s.got (drop next bytes)) z ∙ s.left)
+        let z : n - i ≡ 0 = omega arith in
+        ap tabled (sym s.left) ∙ ap (λ (k : ℕ). table_with (types_of table) (rows k (types_of table) s.got) (drop next bytes)) z
+        ∙ ap (λ (x : RowTable). accepted x (drop next bytes)) (sym s.is)
 
     pub rows-many : held.many ≡ i
     unfolding row_table
     rows-many = ap (λ (x : RowTable). x.many) s.is ∙ s.many
 
-    module _ (another : i < n) where
-      column : held.types ≡ pad 24 (map (type_of (types_of table)) s.got)
-      column = ap (λ (x : RowTable). x.types) s.is ∙ types-column (types_of table) s.got
+    column : held.types ≡ pad 24 (map (type_of (types_of table)) s.got)
+    column = ap (λ (x : RowTable). x.types) s.is ∙ types-column (types_of table) s.got
 
-      typed-length : length (map (type_of (types_of table)) s.got) ≡ i
-      typed-length = map-length (type_of (types_of table)) s.got ∙ s.many
+    typed-length : length (map (type_of (types_of table)) s.got) ≡ i
+    typed-length = map-length (type_of (types_of table)) s.got ∙ s.many
 
+    module _ (range : TypesInRange table) (small : n ≤ 24) (another : i < n) where
       pub before-row : Before table i held.types
       before-row =
           record {
@@ -197,66 +182,39 @@ module _ (bytes : List ℕ) (at n : ℕ) (table : TypeTable) where
       one_more : rows (suc again) (types_of table) s.got (drop next bytes) ≡ rows n (types_of table) [] (drop at bytes)
       one_more = let z : suc again ≡ n - i = omega arith in ap (λ (k : ℕ). rows k (types_of table) s.got (drop next bytes)) z ∙ s.left
 
-      module _ (k : Number) (is : k ≡ below_at bytes next 4 6) where
-        refuses : (q : ℕ) → rows (suc again) (types_of table) s.got (drop next bytes) ≡ refused q → no_rows q ≡ rows_from bytes at n (types_of table)
-        unfolding rows_from
-        refuses q e = ap (as_rows (types_of table) bytes) (sym e ∙ one_more)
+      pub kind_stops : (q : ℕ) → kind (drop next bytes) ≡ refused q → whole ≡ refused q
+      kind_stops q e = ap tabled (sym one_more ∙ rows_stop_kind again (types_of table) s.got (drop next bytes) q e)
 
-        pub kind_stop : ¬ (k.refused ≡ 0) → no_rows k.refused ≡ rows_from bytes at n (types_of table)
-        kind_stop h = refuses k.refused (rows_stop_kind again (types_of table) s.got (drop next bytes) k.refused (below-refused bytes next 4 6 (omega arith) k is h))
+      module _ (k to : ℕ) (kind_read : kind (drop next bytes) ≡ accepted k (drop to bytes)) where
+        -- by the rows before
+        by_rows : row_of (types_of table) s.got k (drop to bytes) ≡ row_by (types_of table) (take i held.types) k (drop to bytes)
+        by_rows = row-by (types_of table) s.got k (drop to bytes) ∙ ap (λ (us : List ℕ). row_by (types_of table) us k (drop to bytes)) (sym front)
 
-        module _ (kinded : k.refused ≡ 0) where
-          kind-read : Found kind 4 bytes next k
-          kind-read = below-found bytes next 4 6 (omega arith) k is kinded
+        pub row_stops : (q : ℕ) → row_with (types_of table) (row_by (types_of table) (take i held.types) k) (drop to bytes) ≡ refused q → whole ≡ refused q
+        row_stops q e =
+            ap tabled (sym one_more ∙ rows_stop_row again (types_of table) s.got (drop next bytes) k (drop to bytes) kind_read q
+            (by_rows ∙ mapped-stops (as_row (types_of table)) (row_by (types_of table) (take i held.types) k (drop to bytes)) q e))
 
-          pub kind-small : k.value < 4
-          kind-small = kind-read.small
-
-          module _ (r : RowRead) (row_is_lem : r ≡ row_read_at bytes k.at (types_of table) (take i held.types) k.value) where
-            -- by the rows before
-            by_rows : row_of (types_of table) s.got k.value (drop k.at bytes) ≡ row_by (types_of table) (take i held.types) k.value (drop k.at bytes)
-            by_rows = row-by (types_of table) s.got k.value (drop k.at bytes) ∙ ap (λ (us : List ℕ). row_by (types_of table) us k.value (drop k.at bytes)) (sym front)
-
-            pub row_stop : ¬ (r.refused ≡ 0) → no_rows r.refused ≡ rows_from bytes at n (types_of table)
-            row_stop h =
-                refuses r.refused
-                (rows_stop_row again (types_of table) s.got (drop next bytes) k.value (drop k.at bytes) kind-read.parsed r.refused
-                (by_rows ∙ row_not_given bytes k.at (types_of table) (take i held.types) k.value r row_is_lem h))
-
-            pub row_next : r.refused ≡ 0 → SoFar (stored held k.value r) r.at (i + 1)
-            row_next h =
-                let g = row-given bytes k.at (types_of table) (take i held.types) k.value r row_is_lem h in
-                let o : i + 1 ≡ suc i = omega arith in
-                let f = shape-fits table range g.value g.good.0 in
-                record {
-                  got = s.got ++ (g.value ∷ []);
-                  many = omega (arith, length-append s.got (g.value ∷ []), s.many);
-                  is =
-                      ap (λ (x : RowTable). stored x k.value r) s.is
-                      ∙ ap (λ (q : ℕ). stored (row_table (types_of table) s.got) q r) (sym (g.good.1 kind-small))
-                      ∙ ap (stored (row_table (types_of table) s.got) (row_kind g.value)) g.is
-                      ∙ stored_next (types_of table) s.got g.value (omega (arith, s.many)) s.fit f.1 _;
-                  fit = all_append s.fit (more f none);
-                  within = g.within;
-                  left =
-                      ap (λ (k : ℕ). rows (n - k) (types_of table) (s.got ++ (g.value ∷ [])) (drop r.at bytes)) o
-                      ∙ sym (rows_next again (types_of table) s.got (drop next bytes) k.value (drop k.at bytes) kind-read.parsed g.value (drop r.at bytes) (by_rows ∙ g.parsed))
-                      ∙ one_more;
-                }
-
--- ---- after their number
-
-module _ (bytes : List ℕ) (at limit : ℕ) (ts : Types) (n : Number) (is : n ≡ below_at bytes at (limit + 1) 4) where
-  counted : count limit (drop at bytes) ≡ below (limit + 1) 4 (drop at bytes)
-  counted = count-is limit (drop at bytes) ∙ ap (λ (k : ℕ). below k 4 (drop at bytes)) (sym (add-one limit))
-
-  pub count_stop : ¬ (n.refused ≡ 0) → no_rows n.refused ≡ rows_at bytes at limit ts
-  unfolding rows_at
-  count_stop h = sym (ap (λ (r : Parsed ℕ). as_rows ts bytes (and_then (λ n. rows n ts []) r)) (counted ∙ below-refused bytes at (limit + 1) 4 (omega arith) n is h))
-
-  pub count-within : n.refused ≡ 0 → (n.value ≤ limit) × (n.at ≤ length bytes)
-  count-within h = let f = below-found bytes at (limit + 1) 4 (omega arith) n is h in (omega (arith, f.small), f.within)
-
-  pub count_next : n.refused ≡ 0 → rows_from bytes n.at n.value ts ≡ rows_at bytes at limit ts
-  unfolding rows_at rows_from
-  count_next h = sym (ap (λ (r : Parsed ℕ). as_rows ts bytes (and_then (λ n. rows n ts []) r)) (counted ∙ (below-found bytes at (limit + 1) 4 (omega arith) n is h).parsed))
+        pub row_next : (r : read.Row) (behind : ℕ) → row_with (types_of table) (row_by (types_of table) (take i held.types) k) (drop to bytes) ≡ accepted r (drop behind bytes)
+            → behind ≤ length bytes → SoFar (stored held k r) behind (i + 1)
+        row_next r behind e within =
+            let g = mapped-from (as_row (types_of table)) (row_by (types_of table) (take i held.types) k (drop to bytes)) r (drop behind bytes) e in
+            let four : k < 4 = below-small 4 6 k (drop next bytes) (drop to bytes) kind_read in
+            let f = shape-fits table range g.value (row-shape (types_of table) (take i held.types) k (drop to bytes) g.value (drop behind bytes) four g.parsed) in
+            let same = kind-is (types_of table) (take i held.types) k (drop to bytes) g.value (drop behind bytes) four g.parsed in
+            let o : i + 1 ≡ suc i = omega arith in
+            record {
+              got = s.got ++ (g.value ∷ []);
+              many = omega (arith, length-append s.got (g.value ∷ []), s.many);
+              is =
+                  ap (λ (x : RowTable). stored x k r) s.is
+                  ∙ ap (λ (q : ℕ). stored (row_table (types_of table) s.got) q r) (sym same)
+                  ∙ ap (stored (row_table (types_of table) s.got) (row_kind g.value)) (sym g.is)
+                  ∙ stored_next (types_of table) s.got g.value (omega (arith, s.many)) s.fit f.1;
+              fit = all_append s.fit (more f none);
+              within = within;
+              left =
+                  ap (λ (k : ℕ). rows (n - k) (types_of table) (s.got ++ (g.value ∷ [])) (drop behind bytes)) o
+                  ∙ sym (rows_next again (types_of table) s.got (drop next bytes) k (drop to bytes) kind_read g.value (drop behind bytes) (by_rows ∙ g.parsed))
+                  ∙ one_more;
+            }

@@ -1,16 +1,15 @@
 -- The rows at a cursor, in terms of the parsers of the guard file. Assumes nothing: definitions.
-use Rattle.std.specs.Prelude.{List, [], ℕ, ◌+◌, ◌*◌, ◌-◌, length, drop, get_or, set}
+use Rattle.std.specs.Prelude.{List, [], ℕ, ◌+◌, ◌*◌, get_or, set}
 use Rattle.guard.specs.File.{count, rows}
-use Rattle.guard.specs.Guard.{Row}
-use Rattle.guard.specs.Number.{Parsed, Parsed.accepted, Parsed.refused, Parser, ◌>>=◌}
+use Rattle.guard.specs.Guard as guard
+use Rattle.guard.specs.Number.{Parser, ◌>>=◌, return}
 use Rattle.guard.specs.Types.{Types}
 use Rattle.tables.specs.declared.RowTable.{RowTable}
 use Rattle.tables.specs.Layout.{row_table}
-use Rattle.rowparts.specs.declared.RowRead.{RowRead}
-use Rattle.rowreader.specs.declared.RowsRead.{RowsRead}
+use Rattle.rowparts.specs.declared.Row.{Row}
 
 -- a table with one row more
-unfoldable pub stored : RowTable → ℕ → RowRead → RowTable
+unfoldable pub stored : RowTable → ℕ → Row → RowTable
 stored rows k r =
     record {
       many = rows.many + 1;
@@ -23,20 +22,10 @@ stored rows k r =
       values = set rows.values rows.many r.value;
     }
 
-unfoldable pub no_rows : ℕ → RowsRead
-no_rows q = record { refused = q; at = 0; rows = row_table [] [] }
-
-abbrev pub as_rows : Types → List ℕ → Parsed (List Row) → RowsRead
-as_rows ts bytes (refused q) = no_rows q
-as_rows ts bytes (accepted rs rest) = record { refused = 0; at = length bytes - length rest; rows = row_table ts rs }
-
--- so many rows
-unfoldable pub rows_from : List ℕ → ℕ → ℕ → Types → RowsRead
-rows_from bytes at n ts = as_rows ts bytes (rows n ts [] (drop at bytes))
-
 -- "N (0 to 24), then N term rows"
-abbrev pub counted_rows : ℕ → Types → Parser (List Row)
+abbrev pub counted_rows : ℕ → Types → Parser (List guard.Row)
 counted_rows limit ts = count limit >>= λ n. rows n ts []
 
-unfoldable pub rows_at : List ℕ → ℕ → ℕ → Types → RowsRead
-rows_at bytes at limit ts = as_rows ts bytes (counted_rows limit ts (drop at bytes))
+-- the table of the rows that a parser accepts
+abbrev pub table_with : Types → Parser (List guard.Row) → Parser RowTable
+table_with ts p = p >>= λ rs. return (row_table ts rs)

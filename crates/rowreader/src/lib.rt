@@ -2,24 +2,19 @@
 // names only rows before it.
 #![tactic(auto)]
 
-ghost use Rattle.std.specs.Prelude.{◌≡◌, ◌<◌, ◌≤◌, length};
-ghost use Rattle.tables.specs.Layout.{TypesInRange, types_of};
-ghost use Rattle.rowreader.specs.RowReader.{stored, no_rows, rows_from, rows_at};
+ghost use Rattle.std.specs.Prelude.{◌≡◌, ◌<◌, ◌≤◌, [], drop, length};
+ghost use Rattle.guard.specs.File.{rows};
+ghost use Rattle.numbers.specs.Reader.{Reads};
+ghost use Rattle.tables.specs.Layout.{TypesInRange, row_table, types_of};
+ghost use Rattle.rowreader.specs.RowReader.{counted_rows, stored, table_with};
 
-use rowparts::RowRead;
+use guard::Question;
+use numbers::{Read, read_below};
+use rowparts::Row;
 use tables::{RowTable, TypeTable};
 
-// What a read of all rows found. `refused` is 0, or the question that refused, and then all else is 0. `at` is the cursor
-// after what was read.
-#[derive(Clone, Copy)]
-pub struct RowsRead {
-    pub refused: u32,
-    pub at: usize,
-    pub rows: RowTable,
-}
-
 // The table with one row more.
-fn store(rows: RowTable, kind: u8, row: RowRead) -> RowTable
+fn store(rows: RowTable, kind: u8, row: Row) -> RowTable
     requires { rows.many < 24 }
     ensures { result ≡ stored rows kind row }
 {
@@ -36,63 +31,55 @@ fn store(rows: RowTable, kind: u8, row: RowRead) -> RowTable
     out
 }
 
-fn refuse_rows(question: u32) -> RowsRead
-    ensures { result ≡ no_rows question }
+fn no_rows() -> RowTable
+    ensures { result ≡ row_table [] [] }
 {
-    let zeros = [0u8; 24];
-    let parts = [0u8; 72];
-    let values = [0i64; 24];
-    RowsRead {
-        refused: question,
-        at: 0,
-        rows: RowTable {
-            many: 0,
-            kinds: zeros,
-            types: zeros,
-            variants: zeros,
-            parts: parts,
-            values: values,
-        },
+    RowTable {
+        many: 0,
+        kinds: [0u8; 24],
+        types: [0u8; 24],
+        variants: [0u8; 24],
+        parts: [0u8; 72],
+        values: [0i64; 24],
     }
 }
 
 // So many rows.
-fn read_n_rows(bytes: &[u8], at: usize, n: usize, table: TypeTable) -> RowsRead
-    requires { TypesInRange table × (n ≤ 24) × (at ≤ length bytes.now) }
-    ensures { result ≡ rows_from bytes.now at n (types_of table) }
+fn read_n_rows(
+    bytes: &[u8],
+    at: usize,
+    n: usize,
+    table: TypeTable,
+) -> Result<Read<RowTable>, Question>
+    requires in_range { TypesInRange table }
+    requires few { n ≤ 24 }
+    requires within { at ≤ length bytes.now }
+    ensures { Reads (table_with (types_of table) (rows n (types_of table) []) (drop at bytes.now)) bytes.now result }
 {
-    let empty = refuse_rows(0);
-    let mut rows = empty.rows;
+    let mut rows = no_rows();
     let mut next = at;
-    let mut i: usize = 0;
-    while i < n {
-        let k = numbers::read_below(bytes, next, 4, 6);
-        if k.refused != 0 {
-            return refuse_rows(k.refused);
-        }
-        let r = rowkinds::read_row(bytes, k.at, k.value, i, &rows.types, table);
-        if r.refused != 0 {
-            return refuse_rows(r.refused);
-        }
-        rows = store(rows, k.value as u8, r);
+    for i in 0..n {
+        let k = read_below(bytes, next, 4, Question::UnknownKind)?;
+        let r = rowkinds::read_row(bytes, k.at, k.value, i, &rows.types, table)?;
+        rows = store(rows, k.value as u8, r.value);
         next = r.at;
-        i += 1;
     }
-    RowsRead {
-        refused: 0,
+    Ok(Read {
+        value: rows,
         at: next,
-        rows: rows,
-    }
+    })
 }
 
 // The rows, after their number, which is at most `limit`.
-pub fn read_rows(bytes: &[u8], at: usize, limit: u32, table: TypeTable) -> RowsRead
+pub fn read_rows(
+    bytes: &[u8],
+    at: usize,
+    limit: u32,
+    table: TypeTable,
+) -> Result<Read<RowTable>, Question>
     requires { TypesInRange table × (limit ≤ 24) }
-    ensures { result ≡ rows_at bytes.now at limit (types_of table) }
+    ensures { Reads (table_with (types_of table) (counted_rows limit (types_of table)) (drop at bytes.now)) bytes.now result }
 {
-    let n = numbers::read_below(bytes, at, limit + 1, 4);
-    if n.refused != 0 {
-        return refuse_rows(n.refused);
-    }
+    let n = read_below(bytes, at, limit + 1, Question::TooMany)?;
     read_n_rows(bytes, n.at, n.value as usize, table)
 }

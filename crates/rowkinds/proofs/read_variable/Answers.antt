@@ -1,20 +1,17 @@
--- `rowreader::read_variable` meets its contract: one number, the type. Assumes nothing.
-use mathlib.Core.Path.{◌∙◌}
-use native.Mathlib.Omega.{arith}
-use Rattle.rowkinds.proofs.Answers.{type-small, variable_stop, variable-found}
+-- `read_variable` meets its contract. Assumes nothing.
+use Rattle.std.proofs.Common.{refl}
+use Rattle.std.proofs.lemmas.Result.{err_from_is_err_and}
+use Rattle.guard.specs.Guard.{Row.variable}
+use Rattle.guard.specs.Number.{return}
+use Rattle.rowkinds.proofs.RowLaws.{type-left}
 use Rattle.rowkinds.proofs.read_variable.Goals as goal
 
-pub returns-then-t-ne0 : goal.returns-then-t-ne0
-returns-then-t-ne0 c = let a = c.args in
-    let t = c.read_below-t in
-    c.refuse_row.ensures ∙ variable_stop a.table a.bytes.now a.at t.result t.ensures c.if-t-ne0.true
-
-pub overflow_cast-result : goal.overflow_cast-result
-overflow_cast-result c = let a = c.args in
-    let t = c.read_below-t in
-    omega (arith, type-small a.table a.bytes.now a.at t.result t.ensures c.if-t-ne0.false, c.requires.many)
+pub returns-in_err-t : goal.returns-in_err-t
+returns-in_err-t c = let a = c.args in
+    let p = err_from_is_err_and c.from_residual.result c.from_residual.ensures.1 in
+    rw (p.1, p.2, type-left a.table a.bytes.now a.at (λ t. return (variable t)), c.in_err-t.ensures) refl
 
 pub returns : goal.returns
 returns c = let a = c.args in
-    let t = c.read_below-t in
-    variable-found a.table a.bytes.now a.at t.result t.ensures c.if-t-ne0.false
+    let t = c.in_ok-t in
+    record { accepts = rw (type-left a.table a.bytes.now a.at (λ t. return (variable t)), t.ensures.accepts) refl; within = t.ensures.within }

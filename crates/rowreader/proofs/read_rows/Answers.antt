@@ -1,22 +1,21 @@
--- `rowreader::read_rows` meets its contract: a number within the limit, then so many rows. Assumes nothing.
-use mathlib.Core.Path.{◌∙◌}
-use native.Mathlib.Omega.{arith}
-use Rattle.tables.specs.Layout.{types_of}
-use Rattle.rowreader.proofs.RowLaws.{count_stop, count-within, count_next}
+-- `read_rows` meets its contract. Assumes nothing.
+use Rattle.std.proofs.Common.{◌≡◌, ◌∙◌, refl, ap, sym, Bool, List, ℕ, ◌+◌, drop, add-one}
+use lib.Dec.{leb, ltb, leb-suc-suc}
+use Rattle.std.proofs.lemmas.Result.{err_from_is_err_and}
+use Rattle.guard.specs.File.{count}
+use Rattle.guard.specs.Number.{Parsed, Parsed.accepted, Parsed.refused, ◌>>◌, and_then, ask, return, unsigned}
+use Rattle.numbers.specs.Reader.{below}
 use Rattle.rowreader.proofs.read_rows.Goals as goal
 
-pub returns-then-n-ne0 : goal.returns-then-n-ne0
-returns-then-n-ne0 c = let a = c.args in
-    let n = c.read_below-n in
-    c.refuse_rows.ensures ∙ count_stop a.bytes.now a.at a.limit (types_of a.table) n.result n.ensures c.if-n-ne0.true
+-- a count that is at most the limit
+count-is : (limit : ℕ) (bs : List ℕ) → count limit bs ≡ below (limit + 1) 4 bs
+count-is limit bs = go (unsigned bs)
+  where
+    go : (r : Parsed ℕ) → and_then (λ n. ask 4 (leb n limit) >> return n) r ≡ and_then (λ n. ask 4 (ltb n (limit + 1)) >> return n) r
+    go (refused q) = refl
+    go (accepted n rest) = ap (λ (b : Bool). (ask 4 b >> return n) rest) (sym (leb-suc-suc n limit) ∙ ap (ltb n) (sym (add-one limit)))
 
-pub read_n_rows-requires : goal.read_n_rows-requires
-read_n_rows-requires c = let a = c.args in
-    let n = c.read_below-n in
-    let w = count-within a.bytes.now a.at a.limit (types_of a.table) n.result n.ensures c.if-n-ne0.false in
-    (c.requires.0, omega (arith, w.0, c.requires.1), w.1)
-
-pub returns : goal.returns
-returns c = let a = c.args in
-    let n = c.read_below-n in
-    c.read_n_rows.ensures ∙ count_next a.bytes.now a.at a.limit (types_of a.table) n.result n.ensures c.if-n-ne0.false
+pub returns-in_err-n : goal.returns-in_err-n
+returns-in_err-n c = let a = c.args in
+    let p = err_from_is_err_and c.from_residual.result c.from_residual.ensures.1 in
+    rw (p.1, p.2, count-is a.limit (drop a.at a.bytes.now), c.in_err-n.ensures) refl
