@@ -22,7 +22,7 @@ use Rattle.tables.specs.declared.RowTable.{RowTable}
 use Rattle.tables.specs.declared.TypeTable.{TypeTable}
 use Rattle.tables.proofs.Lookups.{row-type_anywhere, variants_at_lem}
 use Rattle.headreader.specs.Head.{Head, head_part}
-use Rattle.headreader.specs.declared.HeadRead.{HeadRead}
+use Rattle.headreader.specs.declared.HeadTables.{HeadTables}
 use Rattle.headreader.proofs.HeadLaws.{HeadFound}
 use Rattle.headreader.proofs.WithHead.{behind, with_head_lem}
 
@@ -41,7 +41,7 @@ module _ (limits : Limits) (sup : Supported limits) where
   unfolding Reads
   head-fits bs h rest e = let (u, l, p) = reads-pair bs h rest (with_head_lem limits as_pair bs ∙ ap (and_then (behind limits as_pair)) e) in p.0
 
-  module _ (bytes : List ℕ) (r : HeadRead) (f : HeadFound limits.types limits.terms bytes r) where
+  module _ (bytes : List ℕ) (r : HeadTables) (at : ℕ) (f : HeadFound limits.types limits.terms bytes r at) where
     abbrev ts : Types
     ts = f.head.types
 
@@ -49,7 +49,7 @@ module _ (limits : Limits) (sup : Supported limits) where
     rs = f.head.rows
 
     pub fits : Fits limits f.head
-    fits = head-fits bytes f.head (drop r.at bytes) f.parsed
+    fits = head-fits bytes f.head (drop at bytes) f.parsed
 
     many-rows : (row_table ts rs).many ≡ length rs
     unfolding row_table

@@ -1,13 +1,12 @@
 -- What reading the types and the term rows of a file gives, in terms of the parsers of the guard file. Assumes nothing: definitions.
-use Rattle.std.specs.Prelude.{List, [], ℕ}
+use Rattle.std.specs.Prelude.{List, ℕ}
 use Rattle.guard.specs.Guard.{Row}
-use Rattle.guard.specs.Number.{Parsed, Parsed.accepted, Parsed.refused, Parser, ◌>>=◌, ◌>>◌, ask, return}
+use Rattle.guard.specs.Number.{Parser, ◌>>=◌, ◌>>◌, ask, return}
 use Rattle.guard.specs.Types.{Types, all_defaults, defaults, infinite_fields}
 use Rattle.tables.specs.Layout.{default_column, row_table, type_table}
-use Rattle.variantreader.specs.VariantReader.{cursor}
 use Rattle.typereader.specs.TypeReader.{types_part}
 use Rattle.rowreader.specs.RowReader.{counted_rows}
-use Rattle.headreader.specs.declared.HeadRead.{HeadRead}
+use Rattle.headreader.specs.declared.HeadTables.{HeadTables}
 
 -- the types and the rows of a file
 pub record Head : Type 0 where
@@ -21,13 +20,10 @@ rows_behind terms ts = counted_rows terms ts >>= λ rs. return (record { types =
 abbrev pub head_part : ℕ → ℕ → Parser Head
 head_part types terms = types_part types >>= λ ts. ask 8 (all_defaults ts) >> (ask 9 (infinite_fields ts) >> rows_behind terms ts)
 
-unfoldable pub no_head : ℕ → HeadRead
-no_head q = record { refused = q; at = 0; types = type_table []; defaults = default_column []; rows = row_table [] [] }
+-- ---- its tables
 
-unfoldable pub as_head : List ℕ → Parsed Head → HeadRead
-as_head bytes (refused q) = no_head q
-as_head bytes (accepted h rest) =
-    record { refused = 0; at = cursor bytes rest; types = type_table h.types; defaults = default_column (defaults h.types); rows = row_table h.types h.rows }
+unfoldable pub head_tables : Head → HeadTables
+head_tables h = record { types = type_table h.types; defaults = default_column (defaults h.types); rows = row_table h.types h.rows }
 
-unfoldable pub head_at : ℕ → ℕ → List ℕ → HeadRead
-head_at types terms bytes = as_head bytes (head_part types terms bytes)
+abbrev pub in_tables : Parser Head → Parser HeadTables
+in_tables p = p >>= λ h. return (head_tables h)

@@ -6,7 +6,7 @@ use Rattle.guard.specs.File.{count}
 use Rattle.guard.specs.Grammar.{ended}
 use Rattle.tables.specs.declared.LiteralTable.{LiteralTable}
 use Rattle.tables.specs.Layout.{literal_table}
-pub use Rattle.literalkinds.specs.OneLiteral.{EachBelow}
+pub use Rattle.literalkinds.specs.OneLiteral.{EachBelow, literal_by}
 
 -- ---- L and the lines
 

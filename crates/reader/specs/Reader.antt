@@ -1,9 +1,8 @@
 -- What the reader gives for a file: the tables of its guard. Assumes nothing: definitions.
-use Rattle.std.specs.Prelude.{List, [], ℕ, min}
-use Rattle.guard.specs.File.{file}
+use Rattle.std.specs.Prelude.{ℕ, min}
 use Rattle.guard.specs.Guard.{Guard}
 use Rattle.guard.specs.Limits.{Limits, base}
-use Rattle.guard.specs.Number.{Parsed, Parsed.accepted, Parsed.refused}
+use Rattle.guard.specs.Number.{Parser, ◌>>=◌, return}
 use Rattle.guard.specs.Types.{defaults}
 use Rattle.tables.specs.Layout.{default_column, literal_table, row_table, type_table}
 use Rattle.siblings.specs.Siblings.{siblings_in}
@@ -13,14 +12,10 @@ use Rattle.reader.specs.declared.Tables.{Tables}
 abbrev pub limits_of : ℕ → ℕ → ℕ → Limits
 limits_of types terms lines = record { types = min types 6; terms = min terms 24; lines = min lines 64; rows = base.rows }
 
-unfoldable pub no_tables : ℕ → Tables
-no_tables q = record { refused = q; types = type_table []; defaults = default_column []; rows = row_table [] []; literals = literal_table []; siblings = siblings_in [] [] }
-
 -- the tables of a guard
 unfoldable pub guard_tables : Guard → Tables
 guard_tables g =
     record {
-      refused = 0;
       types = type_table g.types;
       defaults = default_column (defaults g.types);
       rows = row_table g.types g.rows;
@@ -28,9 +23,6 @@ guard_tables g =
       siblings = siblings_in g.types g.rows;
     }
 
-abbrev pub as_tables : Parsed Guard → Tables
-as_tables (refused q) = no_tables q
-as_tables (accepted g rest) = guard_tables g
-
-unfoldable pub tables_at : Limits → List ℕ → Tables
-tables_at limits bytes = as_tables (file limits bytes)
+-- the guard in its tables
+abbrev pub in_tables : Parser Guard → Parser Tables
+in_tables p = p >>= λ g. return (guard_tables g)
