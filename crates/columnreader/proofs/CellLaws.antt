@@ -1,5 +1,5 @@
 -- The second number of a built row, and a value that is written again as it was. Assumes nothing.
-use Rattle.std.proofs.Common.{◌≡◌, ◌∙◌, refl, ap, sym, Bool, not, List, ℕ, length}
+use Rattle.std.proofs.Common.{◌≡◌, ◌∙◌, refl, ap, Bool, not, List, ℕ, length}
 use borrow.Author.Tests.{eq-eqb}
 use Rattle.guard.specs.File.{name}
 use Rattle.guard.specs.Number.{Parsed, Parsed.accepted, Parsed.refused, Parser, ◌>>◌, and_then, ask, fold_signed, return, unfold_signed}

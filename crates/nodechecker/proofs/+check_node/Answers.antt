@@ -5,7 +5,7 @@ use native.Mathlib.Omega.{arith}
 use Rattle.std.proofs.lemmas.Result.{err_from_is_err_and}
 use Rattle.guard.specs.Closure.{Fact.within}
 use Rattle.classes.specs.Held.{state}
-use Rattle.search.proofs.Decisions.{bit-most, fit-add, fit-steps}
+use Rattle.search.proofs.Decisions.{fit-add, fit-steps}
 use Rattle.search.proofs.Measure.{label_sum}
 use Rattle.nodechecker.proofs.Children.{is-falls, isnt-falls, split-term, split-variant}
 use Rattle.nodechecker.proofs.CheckLaws.{closed, first-refused, no-entry, no-split, not_closed_lem, record-ends, second-tells}
