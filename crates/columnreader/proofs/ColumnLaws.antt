@@ -8,13 +8,10 @@ use lib.ListN.{drop, get_or, length, length-append, length-set, set}
 use lib.Seq.{get_or-append_seam, get_or-set_other, get_or-set_same}
 use borrow.Author.Tests.{eqb-false, eqb-true}
 use Rattle.laws.proofs.Bools.{by_test}
-use Rattle.guard.specs.Number.{Parsed.accepted, Parsed.refused, Parser, and_then}
+use Rattle.guard.specs.Number.{Parsed, Parsed.accepted, Parsed.refused, Parser, and_then}
 use Rattle.guard.specs.Types.{Types}
-use Rattle.numbers.specs.Reader.{Says}
-use Rattle.numbers.proofs.Answers.{goes_on, stops}
 use Rattle.columnfile.specs.Columns.{cell, column_from, columns, columns_from, number_in}
-use Rattle.columnreader.specs.Cells.{Holds, ReadsColumn, next_column}
-use Rattle.columnreader.specs.declared.Cursor.{Cursor}
+use Rattle.columnreader.specs.Cells.{ColumnRead, Holds, next_column}
 
 -- ---- numbers in columns
 
@@ -85,14 +82,15 @@ module _ (cells : List ℕ) (cs : List (List ℕ)) (xs : List ℕ) (h : Holds ce
 abbrev parser_of : Types → List (List ℕ) → ℕ → Parser ℕ
 parser_of ts cs i = cell ts (length cs) (number_in cs 0 i) (number_in cs 1 i) (number_in cs 2 i)
 
-pub record ColumnSoFar (bytes : List ℕ) (at : ℕ) (ts : Types) (j n : ℕ) (first : List ℕ) (next i : ℕ) (cells : List ℕ) (cs : List (List ℕ)) : Type 0 where
+-- the rows before i are read behind the columns `cs`: what is left to read, behind them, is the whole column
+pub record ColumnSoFar (bytes : List ℕ) (at : ℕ) (ts : Types) (n next i : ℕ) (cells : List ℕ) (cs : List (List ℕ)) : Type 0 where
   pub xs : List ℕ
   pub many : length xs ≡ i
   pub holds : Holds cells (cs ++ (xs ∷ []))
   pub left : column_from (parser_of ts cs) (n - i) xs (drop next bytes) ≡ next_column ts n cs (drop at bytes)
 
-pub column-start : (bytes : List ℕ) (at : ℕ) (ts : Types) (j n : ℕ) (cells : List ℕ) (cs : List (List ℕ)) → Holds cells cs → ColumnSoFar bytes at ts j n cells at 0 cells cs
-column-start bytes at ts j n cells cs h =
+pub column-start : (bytes : List ℕ) (at : ℕ) (ts : Types) (n : ℕ) (cells : List ℕ) (cs : List (List ℕ)) → Holds cells cs → ColumnSoFar bytes at ts n at 0 cells cs
+column-start bytes at ts n cells cs h =
     let all : n - 0 ≡ n = omega arith in
     record {
       xs = [];
@@ -101,45 +99,47 @@ column-start bytes at ts j n cells cs h =
       left = ap (λ (k : ℕ). column_from (parser_of ts cs) k [] (drop at bytes)) all;
     }
 
-module _ {bytes : List ℕ} {at : ℕ} {ts : Types} {j n : ℕ} {first : List ℕ} {next i : ℕ} {cells : List ℕ} {cs : List (List ℕ)} (s : ColumnSoFar bytes at ts j n first next i cells cs) (is : length cs ≡ j) where
-  pub column-done : i ≡ n → next_column ts n cs (drop at bytes) ≡ accepted s.xs (drop next bytes)
-  column-done e = let none : n - i ≡ 0 = omega arith in sym s.left ∙ ap (λ (k : ℕ). column_from (parser_of ts cs) k s.xs (drop next bytes)) none
+module _ {bytes : List ℕ} {at : ℕ} {ts : Types} {n next i : ℕ} {cells : List ℕ} {cs : List (List ℕ)} (s : ColumnSoFar bytes at ts n next i cells cs) where
+  module _ {j : ℕ} (is : length cs ≡ j) (more : i < n) (few : n ≤ 24) (inside : j < 6) where
+    abbrev seen : Parser ℕ
+    seen = cell ts j (get_or cells i 0) (get_or cells (24 + i) 0) (get_or cells (48 + i) 0)
 
-  module _ (more : i < n) (few : n ≤ 24) (inside : j < 6) (question next' x : ℕ) (says : Says bytes (cell ts j (get_or cells i 0) (get_or cells (24 + i) 0) (get_or cells (48 + i) 0) (drop next bytes)) question next' x) where
     -- the cells that are looked at are those of the columns before
     looked : (a k : ℕ) → k ≡ 24 * a + i → get_or cells k 0 ≡ number_in cs a i
     looked a k e =
         ap (λ (m : ℕ). get_or cells m 0) e ∙ s.holds.is a i (omega arith)
         ∙ ap (number_in (cs ++ (s.xs ∷ [])) a) (sym s.many) ∙ beyond cs s.xs a ∙ ap (number_in cs a) s.many
 
-    its_parser : cell ts j (get_or cells i 0) (get_or cells (24 + i) 0) (get_or cells (48 + i) 0) ≡ parser_of ts cs (length s.xs)
+    its_parser : seen ≡ parser_of ts cs (length s.xs)
     its_parser =
         ap₂ (λ (k v : ℕ). cell ts j k v (get_or cells (48 + i) 0)) (looked 0 i (omega arith)) (looked 1 (24 + i) (omega arith))
         ∙ ap (cell ts j (number_in cs 0 i) (number_in cs 1 i)) (looked 2 (48 + i) (omega arith))
         ∙ ap₂ (λ (m k : ℕ). cell ts m (number_in cs 0 k) (number_in cs 1 k) (number_in cs 2 k)) (sym is) (sym s.many)
 
-    there : Says bytes (parser_of ts cs (length s.xs) (drop next bytes)) question next' x
-    there = subst (λ (p : Parser ℕ). Says bytes (p (drop next bytes)) question next' x) its_parser says
-
     abbrev rest : ℕ
     rest = n - suc i
 
-    whole : column_from (parser_of ts cs) (suc rest) s.xs (drop next bytes) ≡ next_column ts n cs (drop at bytes)
-    whole = let e : suc rest ≡ n - i = omega arith in ap (λ (k : ℕ). column_from (parser_of ts cs) k s.xs (drop next bytes)) e ∙ s.left
+    -- the whole column, from the number that is read next
+    abbrev from_seen : Parsed ℕ → Parsed (List ℕ)
+    from_seen = and_then (λ y. column_from (parser_of ts cs) rest (s.xs ++ (y ∷ [])))
 
-    pub column_stops : ¬ (question ≡ 0) → next_column ts n cs (drop at bytes) ≡ refused question
-    column_stops q = sym whole ∙ stops (λ y. column_from (parser_of ts cs) rest (s.xs ++ (y ∷ []))) bytes _ question next' x there q
+    whole : from_seen (seen (drop next bytes)) ≡ next_column ts n cs (drop at bytes)
+    whole =
+        let e : suc rest ≡ n - i = omega arith in
+        ap (λ (p : Parser ℕ). from_seen (p (drop next bytes))) its_parser ∙ ap (λ (k : ℕ). column_from (parser_of ts cs) k s.xs (drop next bytes)) e ∙ s.left
 
-    pub column-next : question ≡ 0 → ColumnSoFar bytes at ts j n first next' (i + 1) (set cells (24 * j + i) x) cs
-    column-next z =
+    pub column_stops : (q : ℕ) → seen (drop next bytes) ≡ refused q → next_column ts n cs (drop at bytes) ≡ refused q
+    column_stops q e = sym whole ∙ ap from_seen e
+
+    pub column-next : (x next' : ℕ) → seen (drop next bytes) ≡ accepted x (drop next' bytes) → ColumnSoFar bytes at ts n next' (i + 1) (set cells (24 * j + i) x) cs
+    column-next x next' e =
         let place : 24 * j + i ≡ 24 * length cs + length s.xs = omega (arith, is, s.many) in
         let left : n - (i + 1) ≡ rest = omega arith in
         record {
           xs = s.xs ++ (x ∷ []);
           many = length-append s.xs (x ∷ []) ∙ omega (arith, s.many);
           holds = subst (λ (k : ℕ). Holds (set cells k x) (cs ++ ((s.xs ++ (x ∷ [])) ∷ []))) (sym place) (holds_more cells cs s.xs s.holds (omega (arith, s.many)) (omega (arith, is)) x);
-          left = ap (λ (k : ℕ). column_from (parser_of ts cs) k (s.xs ++ (x ∷ [])) (drop next' bytes)) left
-              ∙ sym (goes_on (λ y. column_from (parser_of ts cs) rest (s.xs ++ (y ∷ []))) bytes _ question next' x there z) ∙ whole;
+          left = ap (λ (k : ℕ). column_from (parser_of ts cs) k (s.xs ++ (x ∷ [])) (drop next' bytes)) left ∙ sym (ap from_seen e) ∙ whole;
         }
 
 -- ---- columns so far
@@ -152,28 +152,27 @@ pub record ColumnsSoFar (bytes : List ℕ) (at : ℕ) (ts : Types) (n next j : �
   pub left : columns_from ts n (6 - j) cs (drop next bytes) ≡ columns ts n (drop at bytes)
 
 module _ {bytes : List ℕ} {at : ℕ} {ts : Types} {n next j : ℕ} {cells : List ℕ} (s : ColumnsSoFar bytes at ts n next j cells) where
-  pub columns-done : j ≡ 6 → columns ts n (drop at bytes) ≡ accepted s.cs (drop next bytes)
-  columns-done e = let none : 6 - j ≡ 0 = omega arith in sym s.left ∙ ap (λ (k : ℕ). columns_from ts n k s.cs (drop next bytes)) none
-
-  module _ (more : j < 6) {r : Cursor} {cells' : List ℕ} (reads : ReadsColumn bytes next ts j n cells r cells') where
+  module _ (more : j < 6) where
     abbrev columns_left : ℕ
     columns_left = 6 - suc j
 
-    all_of : columns_from ts n (suc columns_left) s.cs (drop next bytes) ≡ columns ts n (drop at bytes)
+    -- all columns, from the one that is read next
+    abbrev from_next : Parsed (List ℕ) → Parsed (List (List ℕ))
+    from_next = and_then (λ xs. columns_from ts n columns_left (s.cs ++ (xs ∷ [])))
+
+    all_of : from_next (next_column ts n s.cs (drop next bytes)) ≡ columns ts n (drop at bytes)
     all_of = let e : suc columns_left ≡ 6 - j = omega arith in ap (λ (k : ℕ). columns_from ts n k s.cs (drop next bytes)) e ∙ s.left
 
-    pub columns_stop : ¬ (r.refused ≡ 0) → columns ts n (drop at bytes) ≡ refused r.refused
-    columns_stop q = sym all_of ∙ ap (and_then (λ xs. columns_from ts n columns_left (s.cs ++ (xs ∷ [])))) (reads.refuses s.cs s.holds s.many q)
+    pub columns_stop : (q : ℕ) → next_column ts n s.cs (drop next bytes) ≡ refused q → columns ts n (drop at bytes) ≡ refused q
+    columns_stop q e = sym all_of ∙ ap from_next e
 
-    pub columns-next : r.refused ≡ 0 → ColumnsSoFar bytes at ts n r.at (j + 1) cells'
-    columns-next z =
-        let (xs, e, held) = reads.accepts s.cs s.holds s.many z in
+    pub columns-next : {next' : ℕ} {cells' : List ℕ} → ColumnRead bytes next ts n s.cs next' cells' → ColumnsSoFar bytes at ts n next' (j + 1) cells'
+    columns-next {next'} r =
         let left : 6 - (j + 1) ≡ columns_left = omega arith in
         record {
-          cs = s.cs ++ (xs ∷ []);
-          many = length-append s.cs (xs ∷ []) ∙ omega (arith, s.many);
-          holds = held;
-          within = reads.within z;
-          left = ap (λ (k : ℕ). columns_from ts n k (s.cs ++ (xs ∷ [])) (drop r.at bytes)) left
-              ∙ sym (ap (and_then (λ ys. columns_from ts n columns_left (s.cs ++ (ys ∷ [])))) e) ∙ all_of;
+          cs = s.cs ++ (r.xs ∷ []);
+          many = length-append s.cs (r.xs ∷ []) ∙ omega (arith, s.many);
+          holds = r.holds;
+          within = r.found.within;
+          left = ap (λ (k : ℕ). columns_from ts n k (s.cs ++ (r.xs ∷ [])) (drop next' bytes)) left ∙ sym (ap from_next r.found.accepts) ∙ all_of;
         }

@@ -7,26 +7,13 @@ ghost use Rattle.guard.specs.File.{kind, name};
 ghost use Rattle.guard.specs.Number.{unsigned, unsigned_of, value_width};
 ghost use Rattle.guard.specs.Types.{fields_of, variants_of};
 ghost use Rattle.tables.specs.Layout.{TypesInRange, types_of};
-ghost use Rattle.numbers.specs.Reader.{Says};
+ghost use Rattle.numbers.specs.Reader.{Reads};
 ghost use Rattle.columnfile.specs.Columns.{cell, second, third, width};
 ghost use Rattle.columnreader.specs.Cells.{Holds, ReadsColumn, ReadsColumns};
 
+use guard::Question;
+use numbers::{Read, read_below, read_number};
 use tables::TypeTable;
-
-// A number of a row, and where reading goes on; or the question that refused.
-#[derive(Clone, Copy)]
-struct Cell {
-    refused: u32,
-    at: usize,
-    number: u64,
-}
-
-// Where reading goes on, or the question that refused.
-#[derive(Clone, Copy)]
-pub struct Cursor {
-    pub refused: u32,
-    pub at: usize,
-}
 
 // How many variants a type has; 0 where there is no such type.
 fn variant_count(table: TypeTable, t: u64) -> u32
@@ -69,75 +56,72 @@ pub fn width_of(table: TypeTable, kind: u64, second: u64, third: u64) -> u64
 }
 
 // A number that is asked no more than 2 and 3.
-fn read_plain(bytes: &[u8], at: usize) -> Cell
-    ensures { Says bytes.now (unsigned (drop at bytes.now)) result.refused result.at result.number }
+fn read_plain(bytes: &[u8], at: usize) -> Result<Read<u64>, Question>
+    ensures { Reads (unsigned (drop at bytes.now)) bytes.now result }
 {
-    let n = numbers::read_number(bytes, at);
-    Cell {
-        refused: n.refused,
+    let n = read_number(bytes, at)?;
+    Ok(Read {
+        value: n.value as u64,
         at: n.at,
-        number: n.value as u64,
-    }
+    })
 }
 
 // A name below this limit.
-fn read_name(bytes: &[u8], at: usize, limit: u32) -> Cell
-    ensures { Says bytes.now (name limit (drop at bytes.now)) result.refused result.at result.number }
+fn read_name(bytes: &[u8], at: usize, limit: u32) -> Result<Read<u64>, Question>
+    ensures { Reads (name limit (drop at bytes.now)) bytes.now result }
 {
-    let n = numbers::read_below(bytes, at, limit, 5);
-    Cell {
-        refused: n.refused,
+    let n = read_below(bytes, at, limit, Question::UnknownName)?;
+    Ok(Read {
+        value: n.value as u64,
         at: n.at,
-        number: n.value as u64,
-    }
+    })
 }
 
 // The second number of a row of this kind. A built row's is a variant type.
-fn read_second(bytes: &[u8], at: usize, table: TypeTable, kind: u64) -> Cell
+fn read_second(
+    bytes: &[u8],
+    at: usize,
+    table: TypeTable,
+    kind: u64,
+) -> Result<Read<u64>, Question>
     requires { TypesInRange table }
-    ensures { Says bytes.now (second (types_of table) kind (drop at bytes.now)) result.refused result.at result.number }
+    ensures { Reads (second (types_of table) kind (drop at bytes.now)) bytes.now result }
 {
     if kind != 2 {
         return read_plain(bytes, at);
     }
-    let t = read_name(bytes, at, table.many as u32);
-    if t.refused != 0 {
-        return t;
+    let t = read_name(bytes, at, table.many as u32)?;
+    if variant_count(table, t.value) == 0 {
+        return Err(Question::TypeMismatch);
     }
-    if variant_count(table, t.number) == 0 {
-        return Cell {
-            refused: 7,
-            at: 0,
-            number: 0,
-        };
-    }
-    t
+    Ok(t)
 }
 
 // A constant's value, as it is written.
-fn read_folded(bytes: &[u8], at: usize) -> Cell
-    ensures { Says bytes.now (unsigned_of value_width (drop at bytes.now)) result.refused result.at result.number }
+fn read_folded(bytes: &[u8], at: usize) -> Result<Read<u64>, Question>
+    ensures { Reads (unsigned_of value_width (drop at bytes.now)) bytes.now result }
 {
-    let x = values::read_value(bytes, at);
-    Cell {
-        refused: x.refused,
+    let x = values::read_value(bytes, at)?;
+    Ok(Read {
+        value: values::fold(x.value),
         at: x.at,
-        number: values::fold(x.value),
-    }
+    })
 }
 
 // The third number of a row of this kind, with this second number.
-fn read_third(bytes: &[u8], at: usize, table: TypeTable, kind: u64, second: u64) -> Cell
+fn read_third(
+    bytes: &[u8],
+    at: usize,
+    table: TypeTable,
+    kind: u64,
+    second: u64,
+) -> Result<Read<u64>, Question>
     requires types_in_range { TypesInRange table }
     requires at_in_bounds { at ≤ length bytes.now }
-    ensures { Says bytes.now (third (types_of table) kind second (drop at bytes.now)) result.refused result.at result.number }
+    ensures { Reads (third (types_of table) kind second (drop at bytes.now)) bytes.now result }
 {
     if kind == 0 {
-        return Cell {
-            refused: 0,
-            at,
-            number: 0,
-        };
+        return Ok(Read { value: 0, at });
     }
     if kind == 1 {
         return read_folded(bytes, at);
@@ -157,32 +141,27 @@ fn read_later(
     kind: u64,
     second: u64,
     third: u64,
-) -> Cell
+) -> Result<Read<u64>, Question>
     requires types_in_range { TypesInRange table }
     requires at_in_bounds { at ≤ length bytes.now }
     requires le_j { 3 ≤ j }
-    ensures { Says bytes.now (cell (types_of table) j kind second third (drop at bytes.now)) result.refused result.at result.number }
+    ensures { Reads (cell (types_of table) j kind second third (drop at bytes.now)) bytes.now result }
 {
     if width_of(table, kind, second, third) <= j {
-        return Cell {
-            refused: 0,
-            at,
-            number: 0,
-        };
+        return Ok(Read { value: 0, at });
     }
     read_plain(bytes, at)
 }
 
 // A kind.
-fn read_kind(bytes: &[u8], at: usize) -> Cell
-    ensures { Says bytes.now (kind (drop at bytes.now)) result.refused result.at result.number }
+fn read_kind(bytes: &[u8], at: usize) -> Result<Read<u64>, Question>
+    ensures { Reads (kind (drop at bytes.now)) bytes.now result }
 {
-    let n = numbers::read_below(bytes, at, 4, 6);
-    Cell {
-        refused: n.refused,
+    let n = read_below(bytes, at, 4, Question::UnknownKind)?;
+    Ok(Read {
+        value: n.value as u64,
         at: n.at,
-        number: n.value as u64,
-    }
+    })
 }
 
 // Number `j` of row `i`.
@@ -194,10 +173,10 @@ fn read_cell(
     kind: u64,
     second: u64,
     third: u64,
-) -> Cell
+) -> Result<Read<u64>, Question>
     requires types_in_range { TypesInRange table }
     requires at_in_bounds { at ≤ length bytes.now }
-    ensures { Says bytes.now (cell (types_of table) j kind second third (drop at bytes.now)) result.refused result.at result.number }
+    ensures { Reads (cell (types_of table) j kind second third (drop at bytes.now)) bytes.now result }
 {
     if j == 0 {
         return read_kind(bytes, at);
@@ -211,7 +190,7 @@ fn read_cell(
     read_later(bytes, at, table, j, kind, second, third)
 }
 
-// Column `j` of `n` rows, after those before it.
+// Column `j` of `n` rows, after those before it: where reading goes on.
 fn read_column(
     bytes: &[u8],
     at: usize,
@@ -219,60 +198,39 @@ fn read_column(
     j: usize,
     n: usize,
     cells: &mut [u64; 144],
-) -> Cursor
+) -> Result<usize, Question>
     requires types_in_range { TypesInRange table }
     requires at_in_bounds { (at ≤ length bytes.now) × (n ≤ 24) × (j < 6) }
-    requires cells_len { length cells.old ≡ 144 }
     ensures { ReadsColumn bytes.now at (types_of table) j n cells.old result cells.new }
 {
     let mut next = at;
-    let mut i: usize = 0;
-    while i < n {
+    for i in 0..n {
         let kind = cells[i];
         let second = cells[24 + i];
         let third = cells[48 + i];
-        let c = read_cell(bytes, next, table, j as u64, kind, second, third);
-        if c.refused != 0 {
-            return Cursor {
-                refused: c.refused,
-                at: 0,
-            };
-        }
-        cells[24 * j + i] = c.number;
-        next = c.at;
-        i += 1;
+        let x = read_cell(bytes, next, table, j as u64, kind, second, third)?;
+        cells[24 * j + i] = x.value;
+        next = x.at;
     }
-    Cursor {
-        refused: 0,
-        at: next,
-    }
+    Ok(next)
 }
 
-// All six columns of `n` rows into cells that are 0.
+// All six columns of `n` rows into cells that are 0: where reading goes on.
 pub fn read_columns(
     bytes: &[u8],
     at: usize,
     table: TypeTable,
     n: usize,
     cells: &mut [u64; 144],
-) -> Cursor
+) -> Result<usize, Question>
     requires types_in_range { TypesInRange table }
     requires at_in_bounds { (at ≤ length bytes.now) × (n ≤ 24) }
     requires holds { Holds cells.old [] }
     ensures { ReadsColumns bytes.now at (types_of table) n result cells.new }
 {
     let mut next = at;
-    let mut j: usize = 0;
-    while j < 6 {
-        let c = read_column(bytes, next, table, j, n, cells);
-        if c.refused != 0 {
-            return c;
-        }
-        next = c.at;
-        j += 1;
+    for j in 0..6 {
+        next = read_column(bytes, next, table, j, n, cells)?;
     }
-    Cursor {
-        refused: 0,
-        at: next,
-    }
+    Ok(next)
 }

@@ -1,11 +1,32 @@
 -- What an entry of a record is read as. Assumes nothing: definitions.
-use Rattle.std.specs.Prelude.{List, ℕ}
-use Rattle.guard.specs.Number.{Parsed}
-use Rattle.numbers.specs.Reader.{Says}
-use Rattle.refutations.specs.Record.{Entry}
+use Rattle.std.specs.Prelude.{◌≡◌, List, ℕ, ◌<◌, Result, Ok, Err}
+use Rattle.guard.specs.Number.{Parsed, Parsed.refused, Parser, ◌>>=◌, unsigned}
+use Rattle.guard.specs.Question.{number_of}
+use Rattle.guard.specs.declared.Question.{Question}
+use Rattle.numbers.specs.Reader.{Found}
+use Rattle.numbers.specs.declared.Read.{Read}
+use Rattle.refutations.specs.Checker.{entry_of}
+use Rattle.refutations.specs.Record as refutations
+use Rattle.refutations.specs.Record.{Entry.split_on}
 use Rattle.claims.specs.Claims.{entry_at}
-use Rattle.entryreader.specs.declared.EntryRead.{EntryRead}
+use Rattle.entryreader.specs.declared.Entry.{Entry}
+use Rattle.entryreader.specs.declared.Entry.TheVariants.{Closing, Split}
 
--- what an entry that is read says of the parser of entries
-abbrev pub EntrySays : List ℕ → Parsed Entry → EntryRead → Type 0
-EntrySays bytes p r = Says bytes p r.refused r.at (entry_at r.kind r.first r.second)
+-- an entry, with each number's own question
+abbrev pub entry_by_kind : Parser refutations.Entry
+entry_by_kind = unsigned >>= entry_of
+
+-- the entry of a record that the code's stands for
+abbrev pub entry_in : Entry → refutations.Entry
+entry_in (Closing reason number) = entry_at reason number 0
+entry_in (Split x v) = split_on (record { term = x; variant = v })
+
+-- a reason to close is one of the four
+abbrev pub Listed : Entry → Type 0
+Listed (Closing reason number) = reason < 4
+Listed (Split x v) = Unit {0}
+
+-- a reader of an entry has what stands for it, with a listed reason
+abbrev pub ReadsEntry : Parsed refutations.Entry → List ℕ → Result (Read Entry) Question → Type 0
+ReadsEntry p bytes (Ok r) = Found p bytes (entry_in r.value) r.at × Listed r.value
+ReadsEntry p bytes (Err q) = p ≡ refused (number_of q)

@@ -1,67 +1,55 @@
 // The entries of a record, read at a cursor.
 #![tactic(auto)]
 
-ghost use Rattle.std.specs.Prelude.{◌≡◌, ◌<◌, drop};
+ghost use Rattle.std.specs.Prelude.{drop};
 ghost use Rattle.refutations.specs.Checker.{entry};
-ghost use Rattle.entryreader.specs.Entries.{EntrySays};
+ghost use Rattle.entryreader.specs.Entries.{ReadsEntry, entry_by_kind};
 
-// An entry of a record: its kind, a term or a line, and for a split the variant; or the question that refused it.
+use guard::Question;
+use numbers::{Read, read_number};
+
+// An entry of a record: why a node closes, with the term or the line that it is said of; or the term and the variant of a split.
 #[derive(Clone, Copy)]
-pub struct EntryRead {
-    pub refused: u32,
-    pub at: usize,
-    pub kind: u32,
-    pub first: u32,
-    pub second: u32,
+pub enum Entry {
+    Closing { reason: u32, number: u32 },
+    Split { term: u32, variant: u32 },
 }
 
-fn no_entry() -> EntryRead
-    ensures refused_value { result.refused ≡ 12 }
-    ensures kind_bound { result.kind < 5 }
+// The entry at `at`, by its kind, with each number's own question.
+fn read_by_kind(bytes: &[u8], at: usize) -> Result<Read<Entry>, Question>
+    ensures { ReadsEntry (entry_by_kind (drop at bytes.now)) bytes.now result }
 {
-    EntryRead {
-        refused: 12,
-        at: 0,
-        kind: 0,
-        first: 0,
-        second: 0,
-    }
-}
-
-// The entry at `at`.
-pub fn read_entry(bytes: &[u8], at: usize) -> EntryRead
-    ensures entry_says { EntrySays bytes.now (entry (drop at bytes.now)) result }
-    ensures kind_bound { result.kind < 5 }
-{
-    let k = numbers::read_number(bytes, at);
-    if k.refused != 0 {
-        return no_entry();
-    }
-    if 4 < k.value {
-        return no_entry();
-    }
-    let a = numbers::read_number(bytes, k.at);
-    if a.refused != 0 {
-        return no_entry();
-    }
+    let k = read_number(bytes, at)?;
     if k.value < 4 {
-        return EntryRead {
-            refused: 0,
-            at: a.at,
-            kind: k.value,
-            first: a.value,
-            second: 0,
-        };
+        let n = read_number(bytes, k.at)?;
+        return Ok(Read {
+            value: Entry::Closing {
+                reason: k.value,
+                number: n.value,
+            },
+            at: n.at,
+        });
     }
-    let b = numbers::read_number(bytes, a.at);
-    if b.refused != 0 {
-        return no_entry();
+    if k.value != 4 {
+        return Err(Question::FalseEntry);
     }
-    EntryRead {
-        refused: 0,
-        at: b.at,
-        kind: 4,
-        first: a.value,
-        second: b.value,
+    let x = read_number(bytes, k.at)?;
+    let v = read_number(bytes, x.at)?;
+    Ok(Read {
+        value: Entry::Split {
+            term: x.value,
+            variant: v.value,
+        },
+        at: v.at,
+    })
+}
+
+// The entry at `at`. Whatever is wrong with its numbers, it is a false entry.
+pub fn read_entry(bytes: &[u8], at: usize) -> Result<Read<Entry>, Question>
+    ensures { ReadsEntry (entry (drop at bytes.now)) bytes.now result }
+{
+    match read_by_kind(bytes, at) {
+        Ok(e) => Ok(e),
+        Err(_) => Err(Question::FalseEntry),
     }
 }

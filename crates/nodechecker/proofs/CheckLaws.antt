@@ -6,19 +6,22 @@ use mathlib.Core.List.{List, [], ◌∷◌}
 use Prim.Native.Nat.{ℕ, zero, suc, ◌-◌, ◌^◌, ◌≤◌, ◌<◌}
 use native.Mathlib.Omega.{arith}
 use lib.IntN.{ℤ}
+use Rattle.std.proofs.Common.{Result, Ok, Err}
 use lib.ListN.{length, drop, length-drop}
 use Rattle.laws.proofs.Lists.{length-nil}
 use Rattle.guard.specs.Closure.{Fact.within, State, add, closure_of}
 use Rattle.guard.specs.Guard.{Guard, Literal, Literal.is, Literal.isnt}
-use Rattle.guard.specs.Number.{Parsed, Parsed.accepted, Parser, ◌>>◌, and_then, ask}
+use Rattle.guard.specs.Number.{Parsed, Parsed.accepted, Parsed.refused, Parser, ◌>>◌, and_then, ask}
+use Rattle.guard.specs.Question.{number_of}
+use Rattle.guard.specs.declared.Question.{Question}
+use Rattle.guard.specs.declared.Question.TheVariants.{FalseEntry, RecordEnd}
 use Rattle.guard.specs.Terms.{Table, table_of, term_count}
 use Rattle.guard.proofs.Agreement.{named-reached}
 use Rattle.guard.proofs.AnyOrder.{Reached, reached-small}
 use Rattle.guard.proofs.ClosureBelow.{InRange}
 use Rattle.guard.proofs.TableLaws.{literals_in_range_lem, table_in_range}
 use Rattle.tables.specs.Layout.{literal_table}
-use Rattle.numbers.specs.Reader.{Says}
-use Rattle.numbers.proofs.Answers.{goes_on, says-accepted, says-refused, stops}
+use Rattle.numbers.specs.Reader.{Found}
 use Rattle.classes.specs.Held.{Held}
 use Rattle.passes.specs.Pass.{Saturated}
 use Rattle.arrays.specs.Arrays.{fieldless_of, reads_of, shapes_of, sorts_of}
@@ -33,10 +36,7 @@ use Rattle.splitclaims.specs.SplitClaims.{splits_by}
 use Rattle.claims.specs.Claims.{ClosedBy, entry_at}
 use Rattle.refutations.proofs.ClaimsAgree.{claim-agrees}
 use Rattle.claims.proofs.ClaimsSame.{closes_same, splits_same}
-use Rattle.entryreader.specs.declared.EntryRead.{EntryRead}
-use Rattle.entryreader.specs.Entries.{EntrySays}
-use Rattle.nodechecker.specs.declared.NodeRead.{NodeRead}
-use Rattle.nodechecker.specs.Nodes.{Checks}
+use Rattle.nodechecker.specs.Nodes.{Checks, Passes}
 use Rattle.nodechecker.proofs.Children.{split-term, split-variant}
 
 -- a node with a byte left begins with an entry
@@ -52,15 +52,8 @@ nothing_below child (suc (suc zero)) h a b bs = refl
 nothing_below child (suc (suc (suc zero))) h a b bs = refl
 nothing_below child (suc (suc (suc (suc k)))) h a b bs = absurd (omega (arith, h))
 
-a_split : (k : ℕ) → 4 ≤ k → (a b : ℕ) → entry_at k a b ≡ split_on (record { term = a; variant = b })
-a_split zero h a b = absurd (omega (arith, h))
-a_split (suc zero) h a b = absurd (omega (arith, h))
-a_split (suc (suc zero)) h a b = absurd (omega (arith, h))
-a_split (suc (suc (suc zero))) h a b = absurd (omega (arith, h))
-a_split (suc (suc (suc (suc k)))) h a b = refl
-
 module _ (shapes reads sorts full fieldless constants : List ℕ) (values : List ℤ) (kinds terms others : List ℕ) (many : ℕ) (bytes : List ℕ) where
-  abbrev Gives : ℕ → State → NodeRead → Type 0
+  abbrev Gives : ℕ → State → Result ℕ Question → Type 0
   Gives = Checks shapes reads sorts full fieldless constants values kinds terms others many bytes
 
   abbrev Arrays : Guard → Type 0
@@ -88,16 +81,12 @@ module _ (shapes reads sorts full fieldless constants : List ℕ) (values : List
       step = check_step (table_of g) in_range_lem g.literals ls (literals_in_lem g ok begun.node) (drop at bytes)
 
     -- the record ends between nodes
-    pub record-ends : length bytes ≤ at → (r : NodeRead) → r.refused ≡ 13 → Gives at s r
+    pub record-ends : length bytes ≤ at → Gives at s (Err RecordEnd)
     unfolding Checks
-    record-ends h r e g ls ok arrays begun =
-        says-refused bytes (whole g ls ok arrays begun) 13 r.refused r.at tt e (λ z. omega (arith, z))
-        (step g ls ok arrays begun ∙ ap (check_node (holds g ls ok arrays begun) (child g ls ok arrays begun)) (length-nil (drop at bytes) (omega (arith, length-drop at bytes))))
+    record-ends h g ls ok arrays begun =
+        step g ls ok arrays begun ∙ ap (check_node (holds g ls ok arrays begun) (child g ls ok arrays begun)) (length-nil (drop at bytes) (omega (arith, length-drop at bytes)))
 
-    module _ (inside : at < length bytes) (e : EntryRead) (said : EntrySays bytes (entry (drop at bytes)) e) where
-      abbrev found : Entry
-      found = entry_at e.kind e.first e.second
-
+    module _ (inside : at < length bytes) where
       module _ (g : Guard) (ls : List Literal) (ok : Accepted g) (arrays : Arrays g) (begun : Begun g ls s) where
         abbrev follow : Entry → Parser (Unit {0})
         follow x = ask 12 (holds g ls ok arrays begun x) >> below (child g ls ok arrays begun) x
@@ -105,13 +94,11 @@ module _ (shapes reads sorts full fieldless constants : List ℕ) (values : List
         entered : whole g ls ok arrays begun ≡ and_then follow (entry (drop at bytes))
         entered = step g ls ok arrays begun ∙ node-reads (holds g ls ok arrays begun) (child g ls ok arrays begun) (drop at bytes) (omega (arith, length-drop at bytes))
 
-      pub no-entry : ¬ (e.refused ≡ 0) → (r : NodeRead) → r.refused ≡ e.refused → Gives at s r
+      pub no-entry : (q : Question) → entry (drop at bytes) ≡ refused (number_of q) → Gives at s (Err q)
       unfolding Checks
-      no-entry n r q g ls ok arrays begun =
-          says-refused bytes (whole g ls ok arrays begun) e.refused r.refused r.at tt q n
-          (entered g ls ok arrays begun ∙ stops (follow g ls ok arrays begun) bytes (entry (drop at bytes)) e.refused e.at found said n)
+      no-entry q e g ls ok arrays begun = entered g ls ok arrays begun ∙ ap (and_then (follow g ls ok arrays begun)) e
 
-      module _ (z : e.refused ≡ 0) (s₁ : State) (sat : Saturated (all_due shapes reads sorts fieldless) s s₁) (held : Held s₁.classes) where
+      module _ (s₁ : State) (sat : Saturated (all_due shapes reads sorts fieldless) s s₁) (held : Held s₁.classes) where
         module _ (g : Guard) (ls : List Literal) (ok : Accepted g) (arrays : Arrays g) (begun : Begun g ls s) where
           here : Saturated (all_due (shapes_of g) (reads_of g) (sorts_of g) (fieldless_of g)) s s₁
           here = rw (sym arrays.is_shapes, sym arrays.is_reads, sym arrays.is_sorts, sym arrays.is_fieldless) sat
@@ -120,79 +107,78 @@ module _ (shapes reads sorts full fieldless constants : List ℕ) (values : List
           there = arrived g ok ls s begun s₁ here.steps
 
           -- by what the claim is at the state that the code has
-          asked : (b : Bool) → claim (table_of g) g.literals s₁ found ≡ b → whole g ls ok arrays begun ≡ (ask 12 b >> below (child g ls ok arrays begun) found) (drop e.at bytes)
-          asked b q =
-              entered g ls ok arrays begun ∙ goes_on (follow g ls ok arrays begun) bytes (entry (drop at bytes)) e.refused e.at found said z
-              ∙ ap (λ (c : Bool). (ask 12 c >> below (child g ls ok arrays begun) found) (drop e.at bytes))
+          asked : (found : Entry) (next : ℕ) → Found (entry (drop at bytes)) bytes found next → (b : Bool) → claim (table_of g) g.literals s₁ found ≡ b
+              → whole g ls ok arrays begun ≡ (ask 12 b >> below (child g ls ok arrays begun) found) (drop next bytes)
+          asked found next read b q =
+              entered g ls ok arrays begun ∙ ap (and_then (follow g ls ok arrays begun)) read.accepts
+              ∙ ap (λ (c : Bool). (ask 12 c >> below (child g ls ok arrays begun) found) (drop next bytes))
               (sym (claim-agrees (table_of g) (in_range_lem g ls ok arrays begun) s₁ (closure_of (table_of g) ls) (agreed g ok ls s begun s₁ here) g.literals (literals_in_range_lem ok.limits ok.supported g ok.well_formed) found) ∙ q)
 
-        -- ---- kinds 0 to 3
+        -- ---- reasons to close
 
-        module _ (k : e.kind < 4) (b : Bool) (tells : Tells (ClosedBy shapes sorts full constants values kinds terms others many s₁ e.kind e.first) b) where
-          claimed : (g : Guard) (ls : List Literal) (ok : Accepted g) (arrays : Arrays g) (begun : Begun g ls s) → b ≡ claim (table_of g) g.literals s₁ found
+        module _ (reason number next : ℕ) (k : reason < 4) (read : Found (entry (drop at bytes)) bytes (entry_at reason number 0) next) (b : Bool)
+            (tells : Tells (ClosedBy shapes sorts full constants values kinds terms others many s₁ reason number) b) where
+          claimed : (g : Guard) (ls : List Literal) (ok : Accepted g) (arrays : Arrays g) (begun : Begun g ls s) → b ≡ claim (table_of g) g.literals s₁ (entry_at reason number 0)
           unfolding literal_table
           claimed g ls ok arrays begun =
               closes_same ok.limits ok.supported g ok.well_formed ok.total s₁ (reached-small (there g ls ok arrays begun)) held
-              (λ i h. omega (arith, (named-reached (there g ls ok arrays begun)).low i)) e.kind k e.first e.second b
+              (λ i h. omega (arith, (named-reached (there g ls ok arrays begun)).low i)) reason k number 0 b
               (rw (sym arrays.is_shapes, sym arrays.is_sorts, sym arrays.is_full, sym arrays.is_constants, sym arrays.is_values, sym arrays.is_kinds, sym arrays.is_terms, sym arrays.is_others, sym arrays.is_many) tells)
 
-          pub closed : b ≡ true → Gives at s (record { refused = 0; at = e.at })
+          pub closed : b ≡ true → Gives at s (Ok next)
           unfolding Checks
           closed q g ls ok arrays begun =
-              says-accepted bytes (whole g ls ok arrays begun) e.at tt
-              (asked g ls ok arrays begun true (sym (claimed g ls ok arrays begun) ∙ q) ∙ nothing_below (child g ls ok arrays begun) e.kind k e.first e.second (drop e.at bytes)) (said.within z)
+              record {
+                accepts = asked g ls ok arrays begun (entry_at reason number 0) next read true (sym (claimed g ls ok arrays begun) ∙ q) ∙ nothing_below (child g ls ok arrays begun) reason k number 0 (drop next bytes);
+                within = read.within;
+              }
 
-          pub not_closed_lem : b ≡ false → (r : NodeRead) → r.refused ≡ 12 → Gives at s r
+          pub not_closed_lem : b ≡ false → Gives at s (Err FalseEntry)
           unfolding Checks
-          not_closed_lem q r w g ls ok arrays begun =
-              says-refused bytes (whole g ls ok arrays begun) 12 r.refused r.at tt w (λ n. omega (arith, n)) (asked g ls ok arrays begun false (sym (claimed g ls ok arrays begun) ∙ q))
+          not_closed_lem q g ls ok arrays begun = asked g ls ok arrays begun (entry_at reason number 0) next read false (sym (claimed g ls ok arrays begun) ∙ q)
 
         -- ---- splits
 
-        module _ (k : 4 ≤ e.kind) where
-          claimed_split : (g : Guard) (ls : List Literal) (ok : Accepted g) (arrays : Arrays g) (begun : Begun g ls s) → splits_by sorts s₁ e.first e.second ≡ claim (table_of g) g.literals s₁ found
+        module _ (x v next : ℕ) (read : Found (entry (drop at bytes)) bytes (split_on (record { term = x; variant = v })) next) where
+          claimed_split : (g : Guard) (ls : List Literal) (ok : Accepted g) (arrays : Arrays g) (begun : Begun g ls s)
+              → splits_by sorts s₁ x v ≡ claim (table_of g) g.literals s₁ (split_on (record { term = x; variant = v }))
           claimed_split g ls ok arrays begun =
-              ap (λ (xs : List ℕ). splits_by xs s₁ e.first e.second) arrays.is_sorts
-              ∙ splits_same ok.limits ok.supported g ok.well_formed ok.total s₁ (reached-small (there g ls ok arrays begun)) e.first e.second
-              ∙ sym (ap (claim (table_of g) g.literals s₁) (a_split e.kind k e.first e.second))
+              ap (λ (xs : List ℕ). splits_by xs s₁ x v) arrays.is_sorts
+              ∙ splits_same ok.limits ok.supported g ok.well_formed ok.total s₁ (reached-small (there g ls ok arrays begun)) x v
 
-          pub no-split : splits_by sorts s₁ e.first e.second ≡ false → (r : NodeRead) → r.refused ≡ 12 → Gives at s r
+          pub no-split : splits_by sorts s₁ x v ≡ false → Gives at s (Err FalseEntry)
           unfolding Checks
-          no-split q r w g ls ok arrays begun =
-              says-refused bytes (whole g ls ok arrays begun) 12 r.refused r.at tt w (λ n. omega (arith, n)) (asked g ls ok arrays begun false (sym (claimed_split g ls ok arrays begun) ∙ q))
+          no-split q g ls ok arrays begun = asked g ls ok arrays begun (split_on (record { term = x; variant = v })) next read false (sym (claimed_split g ls ok arrays begun) ∙ q)
 
-          module _ (y : splits_by sorts s₁ e.first e.second ≡ true) (bit : ℕ) (b : bit ≡ 2 ^ e.second) (r₁ : NodeRead) (c₁ : State) (first : Gives e.at c₁ r₁) (is_child : c₁ ≡ add s₁ (within e.first bit)) where
+          module _ (y : splits_by sorts s₁ x v ≡ true) (bit : ℕ) (b : bit ≡ 2 ^ v) (c₁ : State) (is_child : c₁ ≡ add s₁ (within x bit)) where
             module _ (g : Guard) (ls : List Literal) (ok : Accepted g) (arrays : Arrays g) (begun : Begun g ls s) where
               abbrev is_parser : Parser (Unit {0})
-              is_parser = child g ls ok arrays begun (is e.first e.second)
+              is_parser = child g ls ok arrays begun (is x v)
 
               abbrev isnt_parser : Parser (Unit {0})
-              isnt_parser = child g ls ok arrays begun (isnt e.first e.second)
+              isnt_parser = child g ls ok arrays begun (isnt x v)
 
-              term : e.first < term_count
-              term = split-term sorts s₁ e.first e.second y
+              term : x < term_count
+              term = split-term sorts s₁ x v y
 
-              by_first : Says bytes (is_parser (drop e.at bytes)) r₁.refused r₁.at tt
+              by_first : (r : Result ℕ Question) → Gives next c₁ r → Passes (is_parser (drop next bytes)) bytes r
               unfolding Checks
-              by_first =
-                  first g (is e.first e.second ∷ ls) ok arrays (subst (Begun g (is e.first e.second ∷ ls)) (sym (is_child ∙ ap (λ (m : ℕ). add s₁ (within e.first m)) b))
-                  (is_begins g ok ls s begun s₁ (here g ls ok arrays begun).steps e.first e.second term (split-variant sorts s₁ e.first e.second y)))
+              by_first r first =
+                  first g (is x v ∷ ls) ok arrays (subst (Begun g (is x v ∷ ls)) (sym (is_child ∙ ap (λ (m : ℕ). add s₁ (within x m)) b))
+                  (is_begins g ok ls s begun s₁ (here g ls ok arrays begun).steps x v term (split-variant sorts s₁ x v y)))
 
-              both : whole g ls ok arrays begun ≡ and_then (λ (u : Unit {0}). isnt_parser) (is_parser (drop e.at bytes))
-              both =
-                  asked g ls ok arrays begun true (sym (claimed_split g ls ok arrays begun) ∙ y)
-                  ∙ ap (λ (x : Entry). below (child g ls ok arrays begun) x (drop e.at bytes)) (a_split e.kind k e.first e.second)
+              both : whole g ls ok arrays begun ≡ and_then (λ (u : Unit {0}). isnt_parser) (is_parser (drop next bytes))
+              both = asked g ls ok arrays begun (split_on (record { term = x; variant = v })) next read true (sym (claimed_split g ls ok arrays begun) ∙ y)
 
-            pub first-refused : ¬ (r₁.refused ≡ 0) → Gives at s r₁
+            pub first-refused : (q : Question) → Gives next c₁ (Err q) → Gives at s (Err q)
             unfolding Checks
-            first-refused n g ls ok arrays begun =
-                says-refused bytes (whole g ls ok arrays begun) r₁.refused r₁.refused r₁.at tt refl n
-                (both g ls ok arrays begun ∙ stops (λ u. isnt_parser g ls ok arrays begun) bytes (is_parser g ls ok arrays begun (drop e.at bytes)) r₁.refused r₁.at tt (by_first g ls ok arrays begun) n)
+            first-refused q first g ls ok arrays begun =
+                both g ls ok arrays begun ∙ ap (and_then (λ (u : Unit {0}). isnt_parser g ls ok arrays begun)) (by_first g ls ok arrays begun (Err q) first)
 
-            pub second-tells : r₁.refused ≡ 0 → (r₂ : NodeRead) (c₂ : State) → Gives r₁.at c₂ r₂ → c₂ ≡ add s₁ (within e.first (65535 - bit)) → Gives at s r₂
+            pub second-tells : (at₁ : ℕ) → Gives next c₁ (Ok at₁) → (r₂ : Result ℕ Question) (c₂ : State) → Gives at₁ c₂ r₂ → c₂ ≡ add s₁ (within x (65535 - bit)) → Gives at s r₂
             unfolding Checks
-            second-tells n r₂ c₂ second isnt_child g ls ok arrays begun =
-                subst (λ (p : Parsed (Unit {0})). Says bytes p r₂.refused r₂.at tt)
-                (sym (both g ls ok arrays begun ∙ goes_on (λ u. isnt_parser g ls ok arrays begun) bytes (is_parser g ls ok arrays begun (drop e.at bytes)) r₁.refused r₁.at tt (by_first g ls ok arrays begun) n))
-                (second g (isnt e.first e.second ∷ ls) ok arrays (subst (Begun g (isnt e.first e.second ∷ ls)) (sym (isnt_child ∙ ap (λ (m : ℕ). add s₁ (within e.first (65535 - m))) b))
-                (isnt_begins g ok ls s begun s₁ (here g ls ok arrays begun).steps e.first e.second (term g ls ok arrays begun) (split-variant sorts s₁ e.first e.second y))))
+            second-tells at₁ first r₂ c₂ second isnt_child g ls ok arrays begun =
+                subst (λ (p : Parsed (Unit {0})). Passes p bytes r₂)
+                (sym (both g ls ok arrays begun ∙ ap (and_then (λ (u : Unit {0}). isnt_parser g ls ok arrays begun)) (by_first g ls ok arrays begun (Ok at₁) first).accepts))
+                (second g (isnt x v ∷ ls) ok arrays (subst (Begun g (isnt x v ∷ ls)) (sym (isnt_child ∙ ap (λ (m : ℕ). add s₁ (within x (65535 - m))) b))
+                (isnt_begins g ok ls s begun s₁ (here g ls ok arrays begun).steps x v (term g ls ok arrays begun) (split-variant sorts s₁ x v y))))

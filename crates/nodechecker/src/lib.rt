@@ -6,24 +6,11 @@ ghost use Rattle.classes.specs.Held.{state};
 ghost use Rattle.search.specs.Nodes.{ArraysFit, StateFit};
 ghost use Rattle.nodechecker.specs.Nodes.{Checks};
 
-// What was found of a node and of all below it: 0 and the cursor after them, or the question that got the first no.
-#[derive(Clone, Copy)]
-pub struct NodeRead {
-    pub refused: u32,
-    pub at: usize,
-}
-
-fn no_node(question: u32) -> NodeRead
-    ensures { result.refused ≡ question }
-{
-    NodeRead {
-        refused: question,
-        at: 0,
-    }
-}
+use entryreader::Entry;
+use guard::Question;
 
 // A node from the state that it begins with, and the record from `at` on: an entry whose claim holds at the node's closure, and
-// after a split both children, "is" before "isn't".
+// after a split both children, "is" before "isn't": the cursor after them, or the question that got the first no.
 pub fn check_node(
     classes: &mut [u8; 96],
     labels: &mut [u16; 96],
@@ -42,51 +29,46 @@ pub fn check_node(
     many: usize,
     bytes: &[u8],
     at: usize,
-) -> NodeRead
+) -> Result<usize, Question>
     requires state_fit { StateFit (state classes.old labels.old) }
     requires arrays_fit { ArraysFit shapes.now reads.now sorts.now full.now fieldless.now labelled.now count terms.now others.now many }
     ensures { Checks shapes.now reads.now sorts.now full.now fieldless.now constants.now values.now kinds.now terms.now others.now many bytes.now at (state classes.old labels.old) result }
 {
     if bytes.len() <= at {
-        return no_node(13);
+        return Err(Question::RecordEnd);
     }
-    let e = entryreader::read_entry(bytes, at);
-    if e.refused != 0 {
-        return no_node(e.refused);
-    }
+    let e = entryreader::read_entry(bytes, at)?;
     saturation::saturate_fully(
         classes, labels, shapes, reads, sorts, fieldless, labelled, count,
     );
-    if e.kind < 4 {
-        if !claims::closes(
-            classes, labels, shapes, sorts, full, constants, values, kinds, terms, others, many,
-            e.kind, e.first,
-        ) {
-            return no_node(12);
+    match e.value {
+        Entry::Closing { reason, number } => {
+            if !claims::closes(
+                classes, labels, shapes, sorts, full, constants, values, kinds, terms, others,
+                many, reason, number,
+            ) {
+                return Err(Question::FalseEntry);
+            }
+            Ok(e.at)
         }
-        return NodeRead {
-            refused: 0,
-            at: e.at,
-        };
+        Entry::Split { term, variant } => {
+            if !splitclaims::splits(classes, labels, sorts, term, variant) {
+                return Err(Question::FalseEntry);
+            }
+            let x = term as u8;
+            let bit = labels::only(variant);
+            let mut own = *classes;
+            let mut cut = *labels;
+            classes::restrict(&own, &mut cut, x, bit);
+            let next = check_node(
+                &mut own, &mut cut, shapes, reads, sorts, full, fieldless, labelled, count,
+                constants, values, kinds, terms, others, many, bytes, e.at,
+            )?;
+            classes::restrict(classes, labels, x, 65535 - bit);
+            check_node(
+                classes, labels, shapes, reads, sorts, full, fieldless, labelled, count,
+                constants, values, kinds, terms, others, many, bytes, next,
+            )
+        }
     }
-    if !splitclaims::splits(classes, labels, sorts, e.first, e.second) {
-        return no_node(12);
-    }
-    let term = e.first as u8;
-    let bit = labels::only(e.second);
-    let mut own = *classes;
-    let mut cut = *labels;
-    classes::restrict(&own, &mut cut, term, bit);
-    let first = check_node(
-        &mut own, &mut cut, shapes, reads, sorts, full, fieldless, labelled, count, constants,
-        values, kinds, terms, others, many, bytes, e.at,
-    );
-    if first.refused != 0 {
-        return first;
-    }
-    classes::restrict(classes, labels, term, 65535 - bit);
-    check_node(
-        classes, labels, shapes, reads, sorts, full, fieldless, labelled, count, constants, values,
-        kinds, terms, others, many, bytes, first.at,
-    )
 }

@@ -2,6 +2,7 @@
 -- Assumes nothing.
 use mathlib.Core.Path.{◌≡◌, refl, ap, sym, ◌∙◌}
 use mathlib.Core.List.{List, [], ◌∷◌, foldl}
+use Rattle.std.proofs.Common.{Result, Ok, Err}
 use Prim.Native.Nat.{ℕ, zero, suc, ◌≤◌, ◌<◌}
 use native.Mathlib.Omega.{arith}
 use lib.ListN.{length, drop, length-drop}
@@ -9,12 +10,12 @@ use Rattle.laws.proofs.Lists.{length-nil}
 use Rattle.guard.specs.Closure.{State, add}
 use Rattle.guard.specs.Guard.{Guard}
 use Rattle.guard.specs.Limits.{base}
-use Rattle.guard.specs.Number.{Parsed.refused}
-use Rattle.guard.specs.Terms.{table_of}
+use Rattle.guard.specs.Number.{Parsed.refused, and_then}
+use Rattle.guard.specs.Question.{number_of}
+use Rattle.guard.specs.declared.Question.{Question}
+use Rattle.guard.specs.declared.Question.TheVariants.{ShortBuffer, Truncated, Malformed, TooMany, UnknownName, UnknownKind, TypeMismatch, NoDefault, NoInfiniteField, TrailingBytes, RecordTooLong, FalseEntry, RecordEnd, FileTooLong, TypesDiffer, VariablesDiffer, TwoNumberTypes, BranchCount}
 use Rattle.guard.proofs.Claims.{accepts-all, base-supported}
 use Rattle.guard.proofs.ClosureEnds.{first}
-use Rattle.numbers.specs.Reader.{Says}
-use Rattle.numbers.proofs.Answers.{goes_on, stops}
 use Rattle.reader.specs.declared.Tables.{Tables}
 use Rattle.reader.specs.Reader.{guard_tables, tables_at}
 use Rattle.problem.specs.declared.Problem.{Problem}
@@ -23,15 +24,14 @@ use Rattle.search.specs.Nodes.{Accepted}
 use Rattle.roots.proofs.RootLaws.{arrays_of, given_in, root_begun}
 use Rattle.reader.proofs.TablesRead.{guard-tables, refused-file, taken-file}
 use Rattle.roots.proofs.TablesRead.{guard-accepted}
-use Rattle.refutations.specs.Checker.{check, check_from, checked, no_more}
+use Rattle.refutations.specs.Checker.{check, checked, no_more}
 use Rattle.refutations.proofs.Theorems.{file-refused, file-taken}
-use Rattle.nodechecker.specs.declared.NodeRead.{NodeRead}
 use Rattle.nodechecker.specs.Nodes.{Checks}
 use Rattle.recordchecker.specs.Checks.{ChecksRoot, ChecksTables, answer}
 
 -- ---- the root
 
-pub root-checked : (tables : Tables) (p : Problem) → p ≡ problem_by tables → (bytes : List ℕ) (r : NodeRead) (s : State) → s ≡ foldl add (first 96) (given_in tables p)
+pub root-checked : (tables : Tables) (p : Problem) → p ≡ problem_by tables → (bytes : List ℕ) (r : Result ℕ Question) (s : State) → s ≡ foldl add (first 96) (given_in tables p)
     → Checks p.shapes p.reads p.sorts p.full p.fieldless p.constants tables.rows.values tables.literals.kinds tables.literals.terms tables.literals.others tables.literals.many bytes 0 s r
     → ChecksRoot tables bytes r
 unfolding Checks ChecksRoot
@@ -47,27 +47,27 @@ more_bytes : (bs : List ℕ) → 0 < length bs → no_more bs ≡ refused 13
 more_bytes [] h = absurd (omega (arith, h))
 more_bytes (b ∷ bs) h = refl
 
-module _ (tables : Tables) (bytes : List ℕ) (r : NodeRead) (root : ChecksRoot tables bytes r) where
-  said : (g : Guard) → Accepted g → tables ≡ guard_tables g → Says bytes (check_from (table_of g) g.literals g.literals bytes) r.refused r.at tt
-  unfolding ChecksRoot
-  said = root
+-- no question has the number 0
+answered : (q : Question) → answer (number_of q) ≡ refused (number_of q)
+answered q = elim q as (λ x. answer (number_of x) ≡ refused (number_of x)) [ ShortBuffer ↦ refl | Truncated ↦ refl | Malformed ↦ refl | TooMany ↦ refl | UnknownName ↦ refl | UnknownKind ↦ refl | TypeMismatch ↦ refl | NoDefault ↦ refl | NoInfiniteField ↦ refl | TrailingBytes ↦ refl | RecordTooLong ↦ refl | FalseEntry ↦ refl | RecordEnd ↦ refl | FileTooLong ↦ refl | TypesDiffer ↦ refl | VariablesDiffer ↦ refl | TwoNumberTypes ↦ refl | BranchCount ↦ refl ]
 
-  pub node-refused : ¬ (r.refused ≡ 0) → ChecksTables tables bytes r.refused
-  unfolding ChecksTables check
-  node-refused n g ok is = is-question r.refused n ∙ sym (stops (λ u. no_more) bytes _ r.refused r.at tt (said g ok is) n)
+module _ (tables : Tables) (bytes : List ℕ) where
+  pub node-refused : (q : Question) → ChecksRoot tables bytes (Err q) → ChecksTables tables bytes (number_of q)
+  unfolding ChecksRoot ChecksTables check
+  node-refused q root g ok is = answered q ∙ sym (ap (and_then (λ (u : Unit {0}). no_more)) (root g ok is))
 
-  module _ (z : r.refused ≡ 0) where
-    read : (g : Guard) → Accepted g → tables ≡ guard_tables g → check g bytes ≡ no_more (drop r.at bytes)
-    unfolding check
-    read g ok is = goes_on (λ u. no_more) bytes _ r.refused r.at tt (said g ok is) z
+  module _ (at : ℕ) (root : ChecksRoot tables bytes (Ok at)) where
+    read : (g : Guard) → Accepted g → tables ≡ guard_tables g → check g bytes ≡ no_more (drop at bytes)
+    unfolding ChecksRoot check
+    read g ok is = ap (and_then (λ (u : Unit {0}). no_more)) (root g ok is).accepts
 
-    pub runs_on : r.at < length bytes → ChecksTables tables bytes 13
+    pub runs_on : at < length bytes → ChecksTables tables bytes 13
     unfolding ChecksTables
-    runs_on h g ok is = sym (read g ok is ∙ more_bytes (drop r.at bytes) (omega (arith, length-drop r.at bytes)))
+    runs_on h g ok is = sym (read g ok is ∙ more_bytes (drop at bytes) (omega (arith, length-drop at bytes)))
 
-    pub ends : length bytes ≤ r.at → ChecksTables tables bytes 0
+    pub ends : length bytes ≤ at → ChecksTables tables bytes 0
     unfolding ChecksTables
-    ends h g ok is = sym (read g ok is ∙ ap no_more (length-nil (drop r.at bytes) (omega (arith, length-drop r.at bytes))))
+    ends h g ok is = sym (read g ok is ∙ ap no_more (length-nil (drop at bytes) (omega (arith, length-drop at bytes))))
 
 -- ---- the file
 

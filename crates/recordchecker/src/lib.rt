@@ -8,12 +8,12 @@ ghost use Rattle.roots.specs.Roots.{GuardsTables};
 ghost use Rattle.refutations.specs.Checker.{checked};
 ghost use Rattle.recordchecker.specs.Checks.{ChecksRoot, ChecksTables, answer};
 
-use nodechecker::NodeRead;
+use guard::Question;
 use problem::Problem;
 use reader::Tables;
 
 // The root of an accepted guard and all below it, from the record's first byte on.
-fn check_root(tables: Tables, problem: Problem, written: &[u8]) -> NodeRead
+fn check_root(tables: Tables, problem: Problem, written: &[u8]) -> Result<usize, Question>
     requires guards_tables { GuardsTables tables }
     requires problem_value { problem ≡ problem_by tables }
     ensures { ChecksRoot tables written.now result }
@@ -75,14 +75,15 @@ fn check_tables(tables: Tables, written: &[u8]) -> u32
     ensures { ChecksTables tables written.now result }
 {
     let problem = problem::problem_of(tables);
-    let r = check_root(tables, problem, written);
-    if r.refused != 0 {
-        return r.refused;
+    match check_root(tables, problem, written) {
+        Ok(end) => {
+            if end < written.len() {
+                return 13;
+            }
+            0
+        }
+        Err(q) => q.number(),
     }
-    if r.at < written.len() {
-        return 13;
-    }
-    0
 }
 
 // A record against a guard file: 0 if it is accepted, else the first question that gets a no, 2 to 10 of the file, 12 or 13.

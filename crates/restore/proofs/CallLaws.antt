@@ -9,8 +9,7 @@ use Rattle.guard.specs.Number.{Parsed.accepted, Parsed.refused, and_then, return
 use Rattle.guard.specs.Types.{Types}
 use Rattle.tables.specs.Layout.{types_of}
 use Rattle.columnfile.specs.Columns.{columns, restored_file, restored_head}
-use Rattle.columnreader.specs.Cells.{Holds, ReadsColumns}
-use Rattle.columnreader.specs.declared.Cursor.{Cursor}
+use Rattle.columnreader.specs.Cells.{ColumnsRead, Holds}
 use Rattle.restore.specs.declared.Head.{Head}
 use Rattle.restore.specs.Restoring.{HeadTaken, Restored, head_of}
 use Rattle.restore.proofs.BoundLaws.{columns-bounded}
@@ -20,29 +19,31 @@ module _ (stored : List ℕ) where
   unfolding restored_file
   head_stop q e = ap (and_then (λ head rest. file base (head ++ rest))) e
 
-  module _ (r : Head) (k : HeadTaken stored r) (c : Cursor) {cells : List ℕ} (reads : ReadsColumns stored r.at (types_of r.table) r.rows c cells) where
-    pub columns_stop : ¬ (c.refused ≡ 0) → restored_file base stored ≡ refused c.refused
-    columns_stop n =
-        head_stop c.refused
+  module _ (r : Head) (k : HeadTaken stored r) where
+    pub columns_stop : (q : ℕ) → columns (types_of r.table) r.rows (drop r.at stored) ≡ refused q → restored_file base stored ≡ refused q
+    columns_stop q e =
+        head_stop q
         (k.rest ∙ ap (and_then (λ cs. return (head_of k.ts r.rows cs)))
-        (ap (λ (ts : Types). columns ts r.rows (drop r.at stored)) (sym k.taken.back) ∙ reads.refuses n))
+        (ap (λ (ts : Types). columns ts r.rows (drop r.at stored)) (sym k.taken.back) ∙ e))
 
-    -- the columns, and the file that is restored
-    pub record Read : Type 0 where
-      pub cs : List (List ℕ)
-      pub restored : Restored r.table r.rows cells k.ts cs
-      pub is : restored_file base stored ≡ file base (head_of k.ts r.rows cs ++ drop c.at stored)
+    module _ (next : ℕ) {cells : List ℕ} (c : ColumnsRead stored r.at (types_of r.table) r.rows next cells) where
+      parsed : columns k.ts r.rows (drop r.at stored) ≡ accepted c.cs (drop next stored)
+      parsed = ap (λ (ts : Types). columns ts r.rows (drop r.at stored)) (sym k.taken.back) ∙ c.found.accepts
 
-    pub restored_as : c.refused ≡ 0 → Read
-    unfolding restored_file
-    restored_as z =
-        let (cs, e, held, many) = reads.accepts z in
-        let parsed : columns k.ts r.rows (drop r.at stored) ≡ accepted cs (drop c.at stored) = ap (λ (ts : Types). columns ts r.rows (drop r.at stored)) (sym k.taken.back) ∙ e in
-        record {
-          cs = cs;
-          restored = record { taken = k.taken; holds = held; many = many; few = k.few; bounded = columns-bounded k.ts r.rows (drop r.at stored) cs (drop c.at stored) parsed };
-          is = ap (and_then (λ head rest. file base (head ++ rest))) (k.rest ∙ ap (and_then (λ cs. return (head_of k.ts r.rows cs))) parsed);
-        }
+      pub restored_as : Restored r.table r.rows cells k.ts c.cs
+      restored_as =
+          record {
+            taken = k.taken;
+            holds = c.holds;
+            many = c.many;
+            few = k.few;
+            bounded = columns-bounded k.ts r.rows (drop r.at stored) c.cs (drop next stored) parsed;
+          }
+
+      -- the file that is restored
+      pub restored-is : restored_file base stored ≡ file base (head_of k.ts r.rows c.cs ++ drop next stored)
+      unfolding restored_file
+      restored-is = ap (and_then (λ head rest. file base (head ++ rest))) (k.rest ∙ ap (and_then (λ cs. return (head_of k.ts r.rows cs))) parsed)
 
 none-there : (n i : ℕ) → get_or {A = ℕ} (replicate n 0) i 0 ≡ 0
 none-there zero i = refl

@@ -139,12 +139,11 @@ pub fn restore(stored: &[u8], out: &mut [u8]) -> FileWritten
     }
     let table = h.table;
     let mut cells = [0u64; 144];
-    let c = columnreader::read_columns(stored, h.at, table, h.rows, &mut cells);
-    if c.refused != 0 {
-        return FileWritten {
-            refused: c.refused,
+    match columnreader::read_columns(stored, h.at, table, h.rows, &mut cells) {
+        Ok(next) => restore_rows(stored, next, table, h.rows, &cells, out),
+        Err(q) => FileWritten {
+            refused: q.number(),
             bytes: 0,
-        };
+        },
     }
-    restore_rows(stored, c.at, table, h.rows, &cells, out)
 }
