@@ -1,8 +1,7 @@
 -- Walks over a range of numbers, a turn at a time, as a loop makes them: a test of all, a test of any, and a column that is
 -- filled from the front. Assumes nothing.
 use mathlib.Core.Path.{◌≡◌, refl, ap, sym, ◌∙◌}
-use borrow.Author.Tests.{not-true, not-false}
-use mathlib.Core.Bool.{not, cond, Bool, true, false, ◌&&◌, ◌||◌}
+use mathlib.Core.Bool.{Bool, true, false, ◌&&◌, ◌||◌}
 use mathlib.Core.List.{List, [], ◌∷◌, ◌++◌, map, Memᴰ}
 use Prim.Native.Nat.{ℕ, zero, suc, ◌+◌, ◌-◌, ◌≤◌, ◌<◌}
 use native.Mathlib.Nat.{zero-add}
@@ -47,17 +46,19 @@ module _ (p : ℕ → Bool) (i n : ℕ) {whole : Bool} where
   pub any_end : whole ≡ any p (from (n - i) i) → n ≤ i → false ≡ whole
   any_end w h = sym (w ∙ ap (any p) (from_end i n h))
 
--- what a function answered, by a branch on the negated answer
-module _ {answer : Bool} (b : Bool) (e : answer ≡ b) where
-  pub said_no : not answer ≡ true → b ≡ false
-  said_no h = sym e ∙ not-true _ h
+-- a turn of a test, and its end
+module _ (p : ℕ → Bool) (i n : ℕ) where
+  pub all_turn : i < n → all p (from (n - i) i) ≡ (p i && all p (from (n - (i + 1)) (i + 1)))
+  all_turn h = ap (all p) (from_next i n h)
 
-  pub said_yes : not answer ≡ false → b ≡ true
-  said_yes h = sym e ∙ not-false _ h
+  pub all_none : n ≤ i → all p (from (n - i) i) ≡ true
+  all_none h = ap (all p) (from_end i n h)
 
--- a flag is that of the test itself
-pub flag_of : {x : ℕ} {answer : Bool} (b : Bool) → x ≡ cond answer 1 0 → answer ≡ b → x ≡ cond b 1 0
-flag_of b e q = e ∙ ap (λ (c : Bool). cond c 1 0) q
+  pub any_turn : i < n → any p (from (n - i) i) ≡ (p i || any p (from (n - (i + 1)) (i + 1)))
+  any_turn h = ap (any p) (from_next i n h)
+
+  pub any_none : n ≤ i → any p (from (n - i) i) ≡ false
+  any_none h = ap (any p) (from_end i n h)
 
 -- ---- tests of mapped lists
 
