@@ -1,41 +1,19 @@
--- The outcome of the questions 8 and 9 for the types that columns in range hold. Assumes nothing.
-use mathlib.Core.Path.{◌≡◌, refl, ap, sym, ◌∙◌}
-use mathlib.Core.Bool.{Bool, true, false, cond}
+-- The questions 8 and 9, of the types that columns in range hold. Assumes nothing.
+use mathlib.Core.Path.{◌≡◌, refl, sym}
 use mathlib.Core.List.{List}
 use Prim.Native.Nat.{ℕ}
-use Rattle.guard.specs.Types.{Types, all_defaults, defaults, infinite_fields}
-use Rattle.tables.specs.Layout.{default_column}
+use Rattle.guard.specs.Types.{Types, all_defaults, defaults}
 use Rattle.finite.specs.TypeColumns.{InRange, types_in}
-use Rattle.finite.specs.Finite.{finite_column}
 use Rattle.defaults.specs.Settled.{all_settled, settled_column}
 use Rattle.defaults.proofs.SettledLaws.{settled-variants}
 use Rattle.defaults.proofs.RoundLaws.{question_8}
-use Rattle.datatypes.specs.Facts.{all_growing, refused_at, type_facts}
 use Rattle.datatypes.proofs.QuestionLaws.{growing-question}
 
 module _ (many : ℕ) (variants first arities sorts : List ℕ) (r : InRange many variants first arities sorts) where
   abbrev ts : Types
   ts = types_in many variants first arities sorts
 
-  question_9 : (finite : List ℕ) → finite ≡ finite_column ts → all_growing finite ts ≡ infinite_fields ts
-  question_9 finite e = ap (λ (c : List ℕ). all_growing c ts) e ∙ growing-question ts
+  pub asked_8 : all_defaults ts ≡ all_settled (settled_column (defaults ts)) many
+  asked_8 = sym (question_8 many variants first arities sorts r (settled_column (defaults ts)) refl)
 
-  -- the outcome by the answers to both questions
-  outcome : (a b : Bool) → all_defaults ts ≡ a → infinite_fields ts ≡ b → type_facts ts ≡ cond a (cond b (record { refused = 0; defaults = default_column (defaults ts) }) (refused_at 9)) (refused_at 8)
-  unfolding type_facts
-  outcome a b p q =
-      ap (λ (x : Bool). cond x (cond (infinite_fields ts) (record { refused = 0; defaults = default_column (defaults ts) }) (refused_at 9)) (refused_at 8)) p
-      ∙ ap (λ (x : Bool). cond a (cond x (record { refused = 0; defaults = default_column (defaults ts) }) (refused_at 9)) (refused_at 8)) q
-
-  pub facts_8 : (settled : List ℕ) {answer : Bool} → settled ≡ settled_column (defaults ts) → answer ≡ all_settled settled many → answer ≡ false → refused_at 8 ≡ type_facts ts
-  facts_8 settled e q n = sym (outcome false (infinite_fields ts) (sym (question_8 many variants first arities sorts r settled e) ∙ sym q ∙ n) refl)
-
-  module _ (settled finite : List ℕ) {answer last : Bool} (e : settled ≡ settled_column (defaults ts)) (f : finite ≡ finite_column ts)
-      (q : answer ≡ all_settled settled many) (y : answer ≡ true) (p : last ≡ all_growing finite ts) where
-    pub facts_9 : last ≡ false → refused_at 9 ≡ type_facts ts
-    facts_9 n = sym (outcome true false (sym (question_8 many variants first arities sorts r settled e) ∙ sym q ∙ y) (sym (question_9 finite f) ∙ sym p ∙ n))
-
-    pub facts_yes : last ≡ true → record { refused = 0; defaults = settled } ≡ type_facts ts
-    facts_yes z =
-        sym (outcome true true (sym (question_8 many variants first arities sorts r settled e) ∙ sym q ∙ y) (sym (question_9 finite f) ∙ sym p ∙ z)
-        ∙ ap (λ (c : List ℕ). record { refused = 0; defaults = c }) (sym (e ∙ settled-variants (defaults ts) (sym (question_8 many variants first arities sorts r settled e) ∙ sym q ∙ y))))
+pub ruleset facts = (asked_8, growing-question, settled-variants)
