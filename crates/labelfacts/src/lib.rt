@@ -27,15 +27,14 @@ fn label_term(
     }
 }
 
+#[tactic(auto, using(facts::proofs::Adding::next_slot), unfolding(crate::specs::Labels::all_variants_by))]
 pub fn label_terms(classes: &[u8; 96], labels: &mut [u16; 96], sorts: &[u8; 96], full: &[u16; 8])
     requires held { Held classes.now }
     requires sorts_fit { SortsFit sorts.now }
     ensures { state classes.now labels.new ≡ foldl add (state classes.now labels.old) (all_variants_by sorts.now full.now) }
 {
-    let mut x: usize = 0;
-    while x < 78 {
+    for x in 0..78 {
         label_term(classes, labels, sorts, full, x);
-        x += 1;
     }
 }
 
@@ -66,14 +65,13 @@ fn label_build(classes: &[u8; 96], labels: &mut [u16; 96], shapes: &[u16; 256], 
     classes::restrict(classes, labels, owner, variant_label(shapes, k));
 }
 
+#[tactic(auto, using(facts::proofs::Adding::next_slot), unfolding(crate::specs::Labels::one_variant_by))]
 pub fn label_builds(classes: &[u8; 96], labels: &mut [u16; 96], shapes: &[u16; 256])
     requires held { Held classes.now }
     requires shapes_fit { ShapesFit shapes.now }
     ensures { state classes.now labels.new ≡ foldl add (state classes.now labels.old) (one_variant_by shapes.now) }
 {
-    let mut slot: usize = 0;
-    while slot < 30 {
+    for slot in 0..30 {
         label_build(classes, labels, shapes, slot);
-        slot += 1;
     }
 }

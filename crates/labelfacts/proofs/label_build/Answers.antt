@@ -1,6 +1,5 @@
 -- `label_build` meets its contract. Assumes nothing.
 use mathlib.Core.Path.{refl}
-use native.Mathlib.Omega.{arith}
 use Rattle.classes.specs.Held.{state}
 use Rattle.labelfacts.proofs.LabelTests.{build_labelled, no-shape, read-shape}
 use Rattle.labelfacts.proofs.label_build.Goals as goal
@@ -12,12 +11,6 @@ returns-then-kind-eq0 c = let a = c.args in
 pub returns-then-others-ne0 : goal.returns-then-others-ne0
 returns-then-others-ne0 c = let a = c.args in
     read-shape a.shapes.now (state a.classes.now a.labels.now) a.k c.if-kind-eq0.false c.if-others-ne0.true
-
-pub overflow_cast-owner : goal.overflow_cast-owner
-overflow_cast-owner c = omega (arith, c.requires.shapes_fit.owner c.args.k c.requires.k_bound)
-
-pub restrict-requires : goal.restrict-requires
-restrict-requires c = (c.requires.shapes_fit.owner c.args.k c.requires.k_bound, c.requires.held)
 
 pub returns : goal.returns
 returns c = let a = c.args in

@@ -1,17 +1,7 @@
 -- `label_term` meets its contract. Assumes nothing.
-use native.Mathlib.Omega.{arith}
 use Rattle.classes.specs.Held.{state}
 use Rattle.labelfacts.proofs.LabelTests.{no-term, term_labelled}
 use Rattle.labelfacts.proofs.label_term.Goals as goal
-
-pub overflow_cast-sort : goal.overflow_cast-sort
-overflow_cast-sort c = omega (arith, c.requires.sorts_fit.sort c.args.x)
-
-pub offset_bounds-full-sort : goal.offset_bounds-full-sort
-offset_bounds-full-sort c = omega (arith, c.requires.sorts_fit.sort c.args.x)
-
-pub bounds-full-sort : goal.bounds-full-sort
-bounds-full-sort c = omega (arith, c.requires.sorts_fit.sort c.args.x)
 
 pub returns-then-sort-ne0 : goal.returns-then-sort-ne0
 returns-then-sort-ne0 c = let a = c.args in
