@@ -9,6 +9,7 @@ ghost use Rattle.arrays.specs.Slots.{ShapesFit, SortsFit, kind_at};
 ghost use Rattle.labelfacts.specs.Labels.{all_variants_at, all_variants_by, one_variant_at, one_variant_by, variant_at};
 
 // A term has at first all variants of its type.
+#[tactic(auto, unfolding(crate::specs::Labels::all_variants_at))]
 fn label_term(
     classes: &[u8; 96],
     labels: &mut [u16; 96],
@@ -47,6 +48,7 @@ fn variant_label(shapes: &[u16; 256], k: usize) -> u16
 }
 
 // A built row or a default is of its variant. A field read has the others as its mask, and may be of any.
+#[tactic(auto, unfolding(crate::specs::Labels::one_variant_at))]
 fn label_build(classes: &[u8; 96], labels: &mut [u16; 96], shapes: &[u16; 256], k: usize)
     requires k_bound { k < 30 }
     requires held { Held classes.now }
