@@ -25,13 +25,8 @@ fn lowest_part(
     ensures { LowestPart shapes.now classes.now levels.now k many result }
 {
     let mut low = rank_at(classes, levels, slots::part(shapes, k, 0));
-    let mut p: usize = 1;
-    while p < many {
-        let level = rank_at(classes, levels, slots::part(shapes, k, p));
-        if level < low {
-            low = level;
-        }
-        p += 1;
+    for p in 1..many {
+        low = low.min(rank_at(classes, levels, slots::part(shapes, k, p)));
     }
     low
 }
@@ -89,29 +84,18 @@ fn sink_all(
     ensures { Sunk shapes.now (state classes.now labels.now) (LastInOrder shapes.now (state classes.now labels.now) 30) levels.old levels.new result }
 {
     let mut any = false;
-    let mut i: usize = 0;
-    while i < 30 {
-        if sink(classes, labels, shapes, levels, 29 - i) {
-            any = true;
-        }
-        i += 1;
+    for k in (0..30).rev() {
+        any |= sink(classes, labels, shapes, levels, k);
     }
     any
 }
 
 // Whether a class is at the bottom.
+#[tactic(auto, unfolding(crate::specs::Levels::bottomed))]
 fn is_bottomed(levels: &[u8; 96]) -> bool
     ensures { result ≡ bottomed levels.now 96 }
 {
-    let mut any = false;
-    let mut c: usize = 0;
-    while c < 96 {
-        if levels[c] == 0 {
-            any = true;
-        }
-        c += 1;
-    }
-    any
+    levels.contains(&0)
 }
 
 // Whether a class is a part of itself.
