@@ -8,7 +8,6 @@ ghost use Rattle.ranks.specs.Ranks.{own_class, ranking_of};
 ghost use Rattle.levels.specs.Levels.{InOrder, LastInOrder, LowestPart, Sunk, bottomed};
 
 use ranks::rank_at;
-use slots::wide;
 
 // The lowest level of the parts of shape k, which has some.
 fn lowest_part(
@@ -37,7 +36,7 @@ fn own_class(classes: &[u8; 96], shapes: &[u16; 256], k: usize) -> usize
     requires shapes_fit { ShapesFit shapes.now }
     ensures { result ≡ own_class shapes.now classes.now k }
 {
-    wide(classes::class_of(classes, slots::owner(shapes, k)))
+    classes::class_of(classes, slots::owner(shapes, k)) as usize
 }
 
 // The class of shape k sinks to one below its lowest part if it is not below it; true if so.

@@ -6,14 +6,12 @@ ghost use Rattle.classes.specs.Held.{Held, state};
 ghost use Rattle.arrays.specs.Slots.{ShapesFit};
 ghost use Rattle.ranks.specs.Ranks.{low, part_above, raised, raised_to, raises_to, ranking_of};
 
-use slots::wide;
-
 pub fn rank_at(classes: &[u8; 96], ranks: &[u8; 96], x: u8) -> u8
     requires x_bound { x < 96 }
     requires held { Held classes.now }
     ensures { result ≡ get_or ranks.now (get_or classes.now x 0) 0 }
 {
-    ranks[wide(classes::class_of(classes, x))]
+    ranks[classes::class_of(classes, x) as usize]
 }
 
 // Whether a part of shape k has the rank of the shape or a higher one.
@@ -59,7 +57,7 @@ fn raise(
     if !slots::active(classes, labels, shapes, k) {
         return false;
     }
-    let c = wide(classes::class_of(classes, slots::owner(shapes, k)));
+    let c = classes::class_of(classes, slots::owner(shapes, k)) as usize;
     ranks[c] = round;
     true
 }

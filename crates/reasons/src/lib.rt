@@ -8,7 +8,7 @@ ghost use Rattle.arrays.specs.Slots.{SortsFit};
 ghost use Rattle.labelled.specs.Covers.{Covers, has_mask};
 ghost use Rattle.reasons.specs.Reasons.{LinesFit, broken_at, constant_class, empty_at, unlike, unlike_at, unlike_before};
 
-use slots::{label_at, wide};
+use slots::label_at;
 
 // ---- empty labels
 
@@ -29,7 +29,7 @@ pub fn is_empty(
     if label_at(classes, labels, x) != 0 {
         return false;
     }
-    full[wide(sorts[x])] != 0
+    full[sorts[x] as usize] != 0
 }
 
 // The lowest term of variant type with an empty label, of a list that leaves out none of them; 78 if there is none.
@@ -103,7 +103,7 @@ fn constant_class(classes: &[u8; 96], k: usize) -> usize
     requires { k < 30 }
     ensures { result ≡ constant_class classes.now k }
 {
-    wide(classes::class_of(classes, constants::constant_term(k)))
+    classes::class_of(classes, constants::constant_term(k)) as usize
 }
 
 #[tactic(auto, unfolding(crate::specs::Reasons::unlike))]

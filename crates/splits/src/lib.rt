@@ -9,7 +9,7 @@ ghost use Rattle.arrays.specs.Slots.{ReadsFit, SortsFit};
 ghost use Rattle.labelled.specs.Covers.{Covers, has_mask};
 ghost use Rattle.splits.specs.Choice.{choice_of, first_by, lowest_in, read_splits, split_by, term_splits};
 
-use slots::{label_at, wide};
+use slots::label_at;
 
 // A decision to split on: whether there is one, whether it is of the first kind, its term and its variant.
 #[derive(Clone, Copy)]
@@ -69,7 +69,7 @@ fn term_splits(
     ensures { result ≡ term_splits sorts.now fieldless.now (state classes.now labels.now) x }
 {
     let label = label_at(classes, labels, x);
-    if label & fieldless[wide(sorts[x])] != label {
+    if label & fieldless[sorts[x] as usize] != label {
         return false;
     }
     labels::size(label) >= 2

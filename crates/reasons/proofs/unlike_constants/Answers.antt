@@ -13,7 +13,7 @@ pub loop-k-preserved : goal.loop-k-preserved
 loop-k-preserved c = let l = c.loop-k in
     let a = c.args in
     elim c.if-is_unlike_before.branch [
-      | then-is_unlike_before w ↦ w.found-is ∙ w.min-found.ensures ∙ unlike_lowest a.constants.now a.values.now a.classes.now l.k l.found l.invariant (sym c.is_unlike_before.ensures ∙ w.if-is_unlike_before.true) w.constant_class.result w.constant_class.ensures
-          (omega (arith, w.constant_class.ensures, c.requires.there (constant_term l.k)))
+      | then-is_unlike_before w ↦ let e = unlike_lowest a.constants.now a.values.now a.classes.now l.k l.found l.invariant (sym c.is_unlike_before.ensures ∙ w.if-is_unlike_before.true) w.constant_class.result w.constant_class.ensures
+          (omega (arith, w.constant_class.ensures, c.requires.there (constant_term l.k))) in cc
       | else-is_unlike_before w ↦ w.found-is ∙ unlike-same a.constants.now a.values.now a.classes.now l.k l.found l.invariant (sym c.is_unlike_before.ensures ∙ w.if-is_unlike_before.false)
     ]
