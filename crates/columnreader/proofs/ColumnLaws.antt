@@ -8,7 +8,7 @@ use lib.ListN.{drop, get_or, length, length-append, length-set, set}
 use lib.Seq.{get_or-append_seam, get_or-set_other, get_or-set_same}
 use borrow.Author.Tests.{eqb-false, eqb-true}
 use Rattle.laws.proofs.Bools.{by_test}
-use Rattle.guard.specs.Number.{Parsed.accepted, Parsed.refused, Parser, and_then}
+use Rattle.guard.specs.Number.{Parsed.refused, Parser, and_then}
 use Rattle.guard.specs.Types.{Types}
 use Rattle.numbers.specs.Reader.{Says}
 use Rattle.numbers.proofs.Answers.{goes_on, stops}
@@ -102,9 +102,6 @@ column-start bytes at ts j n cells cs h =
     }
 
 module _ {bytes : List ℕ} {at : ℕ} {ts : Types} {j n : ℕ} {first : List ℕ} {next i : ℕ} {cells : List ℕ} {cs : List (List ℕ)} (s : ColumnSoFar bytes at ts j n first next i cells cs) (is : length cs ≡ j) where
-  pub column-done : i ≡ n → next_column ts n cs (drop at bytes) ≡ accepted s.xs (drop next bytes)
-  column-done e = let none : n - i ≡ 0 = omega arith in sym s.left ∙ ap (λ (k : ℕ). column_from (parser_of ts cs) k s.xs (drop next bytes)) none
-
   module _ (more : i < n) (few : n ≤ 24) (inside : j < 6) (question next' x : ℕ) (says : Says bytes (cell ts j (get_or cells i 0) (get_or cells (24 + i) 0) (get_or cells (48 + i) 0) (drop next bytes)) question next' x) where
     -- the cells that are looked at are those of the columns before
     looked : (a k : ℕ) → k ≡ 24 * a + i → get_or cells k 0 ≡ number_in cs a i
@@ -152,18 +149,12 @@ pub record ColumnsSoFar (bytes : List ℕ) (at : ℕ) (ts : Types) (n next j : �
   pub left : columns_from ts n (6 - j) cs (drop next bytes) ≡ columns ts n (drop at bytes)
 
 module _ {bytes : List ℕ} {at : ℕ} {ts : Types} {n next j : ℕ} {cells : List ℕ} (s : ColumnsSoFar bytes at ts n next j cells) where
-  pub columns-done : j ≡ 6 → columns ts n (drop at bytes) ≡ accepted s.cs (drop next bytes)
-  columns-done e = let none : 6 - j ≡ 0 = omega arith in sym s.left ∙ ap (λ (k : ℕ). columns_from ts n k s.cs (drop next bytes)) none
-
   module _ (more : j < 6) {r : Cursor} {cells' : List ℕ} (reads : ReadsColumn bytes next ts j n cells r cells') where
     abbrev columns_left : ℕ
     columns_left = 6 - suc j
 
     all_of : columns_from ts n (suc columns_left) s.cs (drop next bytes) ≡ columns ts n (drop at bytes)
     all_of = let e : suc columns_left ≡ 6 - j = omega arith in ap (λ (k : ℕ). columns_from ts n k s.cs (drop next bytes)) e ∙ s.left
-
-    pub columns_stop : ¬ (r.refused ≡ 0) → columns ts n (drop at bytes) ≡ refused r.refused
-    columns_stop q = sym all_of ∙ ap (and_then (λ xs. columns_from ts n columns_left (s.cs ++ (xs ∷ [])))) (reads.refuses s.cs s.holds s.many q)
 
     pub columns-next : r.refused ≡ 0 → ColumnsSoFar bytes at ts n r.at (j + 1) cells'
     columns-next z =

@@ -226,8 +226,7 @@ fn read_column(
     ensures { ReadsColumn bytes.now at (types_of table) j n cells.old result cells.new }
 {
     let mut next = at;
-    let mut i: usize = 0;
-    while i < n {
+    for i in 0..n {
         let kind = cells[i];
         let second = cells[24 + i];
         let third = cells[48 + i];
@@ -240,7 +239,6 @@ fn read_column(
         }
         cells[24 * j + i] = c.number;
         next = c.at;
-        i += 1;
     }
     Cursor {
         refused: 0,
@@ -262,14 +260,12 @@ pub fn read_columns(
     ensures { ReadsColumns bytes.now at (types_of table) n result cells.new }
 {
     let mut next = at;
-    let mut j: usize = 0;
-    while j < 6 {
+    for j in 0..6 {
         let c = read_column(bytes, next, table, j, n, cells);
         if c.refused != 0 {
             return c;
         }
         next = c.at;
-        j += 1;
     }
     Cursor {
         refused: 0,
