@@ -1,6 +1,6 @@
 -- `draw_rank` meets its contract. Assumes nothing.
 use mathlib.Core.Path.{◌≡◌, sym, ◌∙◌, subst}
-use Prim.Native.Nat.{ℕ, suc, ◌+◌, ◌-◌}
+use Prim.Native.Nat.{ℕ, suc, ◌+◌}
 use native.Mathlib.Omega.{arith}
 use Rattle.fixedrows.specs.Stage.{Advances}
 use Rattle.fixedrows.proofs.StageLaws.{advances_as, advances-long, advances-none, advances-then, next-rank, noted_advances, passed_over, staged-then}
@@ -38,7 +38,7 @@ loop-c-preserved c = let a = c.args in
           (passed_over a.leaf l.at l.rows l.count a.n l.c (sym d.ensures ∙ w.if-is_due.false))
     ]
     in subst (λ (k : ℕ). Advances a.leaf a.at.now a.rows.now a.many a.n 0 m.at m.rows m.count a.n k) one
-          (advances-then a.leaf a.at.now a.rows.now a.many a.n 0 l.at l.rows l.count a.n l.c l.invariant m.at m.rows m.count a.n (suc l.c) step)
+    (advances-then a.leaf a.at.now a.rows.now a.many a.n 0 l.at l.rows l.count a.n l.c l.invariant m.at m.rows m.count a.n (suc l.c) step)
 
 pub shape_of-rows : goal.shape_of-rows
 shape_of-rows c = let a = c.args in let l = c.loop-c in advances-long a.leaf a.at.now a.rows.now a.many a.n 0 l.at l.rows l.count a.n l.c l.invariant c.requires.staged

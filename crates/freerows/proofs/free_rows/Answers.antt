@@ -2,7 +2,7 @@
 use Rattle.freerows.proofs.StageLaws.{Reached, free-read, reached_as, six_zeros, stage_end, stage_skip, stage-start}
 use mathlib.Core.Path.{refl, sym, ◌∙◌, subst}
 use mathlib.Core.List.{[], ◌∷◌}
-use Prim.Native.Nat.{ℕ, suc, ◌-◌}
+use Prim.Native.Nat.{ℕ, suc}
 use native.Mathlib.Omega.{arith}
 use native.Mathlib.Numerals.{add-one}
 use Rattle.rowstore.proofs.StoreLaws.{grown-itself, grown_twice}

@@ -1,6 +1,6 @@
 -- `rounds` meets its contract. Invariant: the rounds so far are drawn. Assumes nothing.
 use mathlib.Core.Path.{◌≡◌, refl, ap, sym}
-use Prim.Native.Nat.{ℕ, ◌*◌, ◌-◌}
+use Prim.Native.Nat.{ℕ, ◌*◌}
 use native.Mathlib.Omega.{arith}
 use Rattle.growth.proofs.Growth.{period_of}
 use Rattle.forms.specs.Forms.{types_in}
