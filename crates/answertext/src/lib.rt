@@ -29,10 +29,8 @@ fn put_terms(out: &mut [u8], at: usize, places: &[i32], many: u32) -> usize
     ensures { Written (96 * many) out.old at (concat_map (term_line places.now) (from many 0)) out.new result }
 {
     let mut next = at;
-    let mut i: u32 = 0;
-    while i < many {
+    for i in 0..many {
         next = put_term(out, next, places, i);
-        i += 1;
     }
     next
 }

@@ -1,7 +1,7 @@
 -- A list of lines, code by code: the line of the next code that is the one asked for, and then the rest. Assumes nothing.
 use mathlib.Core.Path.{◌≡◌, refl, ap, sym, ◌∙◌}
 use mathlib.Core.Bool.{Bool, true, false}
-use mathlib.Core.List.{List, [], ◌∷◌, ◌++◌}
+use mathlib.Core.List.{List, [], ◌++◌}
 use Prim.Native.Nat.{ℕ, suc, ◌+◌, ◌-◌, ◌*◌, ◌≤◌, ◌<◌}
 use native.Mathlib.Omega.{arith}
 use lib.Dec.{eqb}
@@ -9,7 +9,7 @@ use lib.ListN.{length, drop, get_or}
 use lib.Seq.{drop-cons}
 use Rattle.laws.specs.Lists.{concat_map, cons_if, from, when}
 use Rattle.writing.specs.Written.{Written}
-use Rattle.writing.proofs.Partly.{Partly, partly_all, partly_next, partly_room}
+use Rattle.writing.proofs.Partly.{Partly, partly_next, partly_room}
 use Rattle.writing.proofs.Writing.{more_room, nothing}
 use Rattle.branches.specs.Verdicts.{having_code}
 use Rattle.branchtext.specs.BranchText.{line, lines}
@@ -31,13 +31,12 @@ module _ (name : List ℕ) (code n first place : ℕ) (cs : List ℕ) where
 
   -- the loop, before the k-th
   pub record Put (out : List ℕ) (at : ℕ) (out' : List ℕ) (end k : ℕ) : Type 0 where
-    pub some : k ≤ n
     pub long : length out' ≡ length out
     pub puts : Partly (32 * k) (lines name code n first place cs) (left k) out at out' end
 
   pub put_none : {out : List ℕ} {at : ℕ} → at ≤ length out → Put out at out at 0
   put_none room =
-      record { some = omega arith; long = refl; puts = record { text = []; written = more_room (32 * 0) (omega arith) (nothing room); whole = first-is } }
+      record { long = refl; puts = record { text = []; written = more_room (32 * 0) (omega arith) (nothing room); whole = first-is } }
 
   module _ {out : List ℕ} {at : ℕ} {out' : List ℕ} {end k : ℕ} (s : Put out at out' end k) where
     module _ (more : k < n) (there : place + k < length cs) where
@@ -61,7 +60,6 @@ module _ (name : List ℕ) (code n first place : ℕ) (cs : List ℕ) where
       pub put_next : {out'' : List ℕ} {end' : ℕ} (b : Bool) → b ≡ eqb (get_or cs (place + k) 0) code → Written 32 out' end (when b (line name (first + k))) out'' end' → Put out at out'' end' (k + 1)
       put_next b e w =
           record {
-            some = omega arith;
             long = w.long ∙ s.long;
             puts = partly_room (32 * (k + 1)) (omega arith) (partly_next (when b (line name (first + k))) (left (k + 1)) s.puts w (left_by_lem b (sym e) ∙ chosen b));
           }
@@ -69,8 +67,3 @@ module _ (name : List ℕ) (code n first place : ℕ) (cs : List ℕ) where
           chosen : (x : Bool) → concat_map (line name) (cons_if x (first + k) (having_code code (from (n - suc k) (suc (first + k))) (drop (suc (place + k)) cs))) ≡ when x (line name (first + k)) ++ left (k + 1)
           chosen true = ap (λ (l : List ℕ). line name (first + k) ++ l) next-is
           chosen false = next-is
-
-    pub put_all : n ≤ k → Written (32 * n) out at (lines name code n first place cs) out' end
-    put_all done =
-        let m : n - k ≡ 0 = omega arith in
-        more_room (32 * n) (omega (arith, s.some)) (partly_all s.puts (ap (λ (x : ℕ). concat_map (line name) (having_code code (from x (first + k)) (drop (place + k) cs))) m))

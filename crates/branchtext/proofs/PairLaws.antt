@@ -70,7 +70,6 @@ pairs_next word code m i place cs =
 module _ (word : List ℕ) (code many : ℕ) (cs : List ℕ) where
   -- the loop, before branch i
   pub record Put (out : List ℕ) (at : ℕ) (out' : List ℕ) (end place i : ℕ) : Type 0 where
-    pub some : i ≤ many
     pub room : place + pair_count (many - i) ≤ 36
     pub long : length out' ≡ length out
     pub puts : Partly (256 * i) (lines_of_pairs word code many 0 many cs) (lines_of_pairs word code (many - i) i place cs) out at out' end
@@ -79,7 +78,6 @@ module _ (word : List ℕ) (code many : ℕ) (cs : List ℕ) where
   put_none few free =
       let e : many - 0 ≡ many = omega arith in
       record {
-        some = omega arith;
         room = subst (λ (k : ℕ). many + pair_count k ≤ 36) (sym e) (omega (arith, few-counted many few));
         long = refl;
         puts = record { text = []; written = more_room (256 * 0) (omega arith) (nothing free); whole = ap (λ (k : ℕ). lines_of_pairs word code k 0 many cs) e };
@@ -93,9 +91,6 @@ module _ (word : List ℕ) (code many : ℕ) (cs : List ℕ) where
       room_now : place + ((many - i - 1) + pair_count (many - i - 1)) ≤ 36
       room_now = subst (λ (k : ℕ). place + pair_count k ≤ 36) one_less s.room
 
-      pub codes-there : place + (many - i - 1) ≤ 36
-      codes-there = omega (arith, room_now)
-
       pub put_more : {out'' : List ℕ} {end' : ℕ} → many ≤ 8 → Written (32 * (many - i - 1)) out' end (pairs_of word code (many - i - 1) i place cs) out'' end'
           → Put out at out'' end' (place + (many - i - 1)) (i + 1)
       put_more {out''} {end'} few w =
@@ -107,14 +102,13 @@ module _ (word : List ℕ) (code many : ℕ) (cs : List ℕ) where
           ∙ ap (λ (k : ℕ). pairs_of word code m i place cs ++ lines_of_pairs word code k (suc i) (place + m) cs) (sym a)
           ∙ ap (λ (k : ℕ). pairs_of word code m i place cs ++ lines_of_pairs word code (many - (i + 1)) k (place + m) cs) (sym b) in
           record {
-            some = omega arith;
             room = subst (λ (k : ℕ). (place + m) + pair_count k ≤ 36) (sym a) (omega (arith, room_now));
             long = w.long ∙ s.long;
             puts = partly_room (256 * (i + 1)) (omega arith) (partly_next (pairs_of word code m i place cs) (lines_of_pairs word code (many - (i + 1)) (i + 1) (place + m) cs) s.puts w l);
           }
 
-    pub put_all : many ≤ i → Written (256 * many) out at (lines_of_pairs word code many 0 many cs) out' end
+    pub put_all : i ≡ many → Written (256 * many) out at (lines_of_pairs word code many 0 many cs) out' end
     unfolding lines_of_pairs
     put_all done =
         let m : many - i ≡ 0 = omega arith in
-        more_room (256 * many) (omega (arith, s.some)) (partly_all s.puts (ap (λ (k : ℕ). concat_map (pair_line word) (having_code code (pairs_from k i) (drop place cs))) m))
+        more_room (256 * many) (omega arith) (partly_all s.puts (ap (λ (k : ℕ). concat_map (pair_line word) (having_code code (pairs_from k i) (drop place cs))) m))

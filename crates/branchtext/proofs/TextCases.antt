@@ -1,7 +1,7 @@
 -- The request's own lines, and whole texts: three branches with a budget that suffices, one that doesn't, and none; a refusal. Assumes
 -- nothing.
 use mathlib.Core.Path.{◌≡◌, refl}
-use mathlib.Core.List.{List, [], ◌∷◌}
+use mathlib.Core.List.{[], ◌∷◌}
 use lib.ListN.{replicate}
 use Rattle.branches.specs.Verdicts.{lists_of}
 use Rattle.writing.specs.Words.{ascii, decimal}

@@ -48,11 +48,9 @@ fn put_list(
     ensures { Written (32 * n) out.old at (lines name.now code n first place codes.now) out.new result }
 {
     let mut next = at;
-    let mut k: u32 = 0;
-    while k < n {
+    for k in 0..n {
         let is = codes[place + k as usize] == code;
         next = put_if(out, next, name, first + k, is);
-        k += 1;
     }
     next
 }
@@ -90,12 +88,10 @@ fn put_pairs(out: &mut [u8], at: usize, word: &[u8], codes: &[u8], many: u32, co
 {
     let mut next = at;
     let mut place = many as usize;
-    let mut i: u32 = 0;
-    while i < many {
+    for i in 0..many {
         let n = many - i - 1;
         next = put_pairs_of(out, next, word, codes, place, i, n, code);
         place += n as usize;
-        i += 1;
     }
     next
 }

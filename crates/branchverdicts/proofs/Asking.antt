@@ -13,7 +13,6 @@ use Rattle.tables.specs.Layout.{literal_table, row_table, type_table}
 use Rattle.tables.specs.declared.LiteralTable.{LiteralTable}
 use Rattle.tables.proofs.Columns.{pad-at}
 use Rattle.branches.specs.Procedure.{Procedure, branch_limit, guard_with}
-use Rattle.branches.proofs.Fits.{LinesIn, ProcedureFits}
 use Rattle.branchreader.specs.BranchReader.{branch_tables, procedure_tables}
 use Rattle.branchreader.specs.declared.ProcedureRead.{ProcedureRead}
 use Rattle.verdicts.specs.VerdictOn.{Askable, AskedOf}

@@ -9,7 +9,7 @@ use native.Mathlib.Omega.{arith}
 use lib.Dec.{ltb}
 use lib.ListN.{length, get_or, length-map, get_or-append}
 use Rattle.laws.proofs.Lists.{all_get_d}
-use Rattle.guard.specs.Guard.{Guard, Literal}
+use Rattle.guard.specs.Guard.{Guard}
 use Rattle.guard.specs.Limits.{Supported, base}
 use Rattle.guard.specs.Meaning.{Satisfiable}
 use Rattle.guard.specs.Number.{Parsed, Parsed.accepted, Parsed.refused}

@@ -1,11 +1,10 @@
 -- All numbers in a buffer of zeros: those of the branches, those of the pairs, and zeros behind them. Assumes nothing.
-use mathlib.Core.Path.{◌≡◌, refl, ap, sym, ◌∙◌}
-use mathlib.Core.List.{List, [], ◌∷◌, ◌++◌, map, map-append, map-id}
+use mathlib.Core.Path.{◌≡◌, ap, sym, ◌∙◌}
+use mathlib.Core.List.{List, [], ◌++◌, map-append, map-id}
 use Prim.Native.Nat.{ℕ, zero, suc, ◌+◌, ◌-◌, ◌≤◌}
 use native.Mathlib.Omega.{arith}
-use lib.ListN.{length, drop, take, replicate, length-replicate, take-append-drop}
+use lib.ListN.{length, drop, replicate, take-append-drop}
 use Rattle.laws.specs.All.{All.none}
-use Rattle.guard.specs.Guard.{Literal}
 use Rattle.tables.specs.Layout.{literal_table, pad}
 use Rattle.tables.specs.declared.LiteralTable.{LiteralTable}
 use Rattle.writing.specs.Written.{Written}
@@ -14,8 +13,8 @@ use Rattle.verdictcodes.specs.Codes.{code_for}
 use Rattle.branches.specs.Procedure.{Procedure, guard_with}
 use Rattle.branches.specs.Verdicts.{codes, pairs}
 use Rattle.branchreader.specs.declared.ProcedureRead.{ProcedureRead}
-use Rattle.branchverdicts.specs.Judging.{Fills, Holds, HoldsLines, PutsPairs, PutsWith, Taken, TakenWith, codes_of}
-use Rattle.branchverdicts.proofs.Asking.{count_held, few}
+use Rattle.branchverdicts.specs.Judging.{Fills, Holds, HoldsLines, PutsPairs, PutsWith, Taken, codes_of}
+use Rattle.branchverdicts.proofs.Asking.{few}
 
 -- no lines fit everywhere
 pub none-held : (p : Procedure) (table : LiteralTable) → table ≡ literal_table [] → HoldsLines p table []

@@ -1,6 +1,6 @@
 -- The numbers of all pairs, put by lower branch: there are at most 28. Assumes nothing.
 use mathlib.Core.Path.{◌≡◌, refl, ap, sym, ◌∙◌}
-use mathlib.Core.List.{List, [], ◌∷◌, ◌++◌, map, map-append}
+use mathlib.Core.List.{List, [], ◌++◌, map, map-append}
 use Prim.Native.Nat.{ℕ, suc, ◌+◌, ◌-◌, ◌≤◌, ◌<◌}
 use native.Mathlib.Omega.{arith}
 use lib.ListN.{length, drop, get_or, length-append, length-drop, length-map}
@@ -37,13 +37,12 @@ pairs_next budget p i h =
 
 -- the loop, before branch i
 pub record PutPairs (t : ProcedureRead) (budget : ℕ) (out : List ℕ) (at : ℕ) (out' : List ℕ) (end i : ℕ) : Type 0 where
-  pub some : i ≤ t.many
   pub long : length out' ≡ length out
   pub puts : (p : Procedure) → Holds t p → Partly 28 (pair_codes budget p 0) (pair_codes budget p i) out at out' end
 
 module _ (t : ProcedureRead) (budget : ℕ) (out : List ℕ) (at : ℕ) where
   pub pairs-none : at ≤ length out → PutPairs t budget out at out at 0
-  pairs-none room = record { some = omega arith; long = refl; puts = λ p h. partly_room 28 (omega arith) (partly_none (pair_codes budget p 0) room) }
+  pairs-none room = record { long = refl; puts = λ p h. partly_room 28 (omega arith) (partly_none (pair_codes budget p 0) room) }
 
   module _ (out' : List ℕ) (end i : ℕ) (s : PutPairs t budget out at out' end i) where
     -- so many are put and left in all
@@ -69,7 +68,6 @@ module _ (t : ProcedureRead) (budget : ℕ) (out : List ℕ) (at : ℕ) where
           → PutsWith t first (i + 1) budget out' end end' out'' → PutPairs t budget out at out'' end' (i + 1)
       pairs-more {first} {out''} {end'} k held w =
           record {
-            some = omega arith;
             long = (w.puts k.procedure (get_or k.procedure.branches i []) k.holds (held k.procedure k.holds)).long ∙ s.long;
             puts = λ p h. next p h;
           }
@@ -96,7 +94,7 @@ module _ (t : ProcedureRead) (budget : ℕ) (out : List ℕ) (at : ℕ) where
                     whole = x.whole;
                   }
 
-    pub pairs-all : t.many ≤ i → PutsPairs t budget out at end out'
+    pub pairs-all : i ≡ t.many → PutsPairs t budget out at end out'
     pairs-all done = record { puts = λ p h. all p h }
       where
         all : (p : Procedure) → Holds t p → Written 28 out at (pair_codes budget p 0) out' end

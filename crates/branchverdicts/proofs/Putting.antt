@@ -26,17 +26,15 @@ codes_from budget p ls j = codes_of budget p (map (λ ms. ls ++ ms) (drop j p.br
 -- the loop, before branch j
 pub record Put (t : ProcedureRead) (first : LiteralTable) (from budget : ℕ) (out : List ℕ) (at : ℕ) (out' : List ℕ) (end j : ℕ) : Type 0 where
   pub since : from ≤ j
-  pub some : j ≤ t.many
   pub place : end ≡ at + (j - from)
   pub long : length out' ≡ length out
   pub puts : (p : Procedure) (ls : List Literal) → Holds t p → HoldsLines p first ls → Partly (j - from) (codes_from budget p ls from) (codes_from budget p ls j) out at out' end
 
 module _ (t : ProcedureRead) (first : LiteralTable) (from budget : ℕ) (out : List ℕ) (at : ℕ) where
-  pub put_none : from ≤ t.many → at ≤ length out → Put t first from budget out at out at from
-  put_none h room =
+  pub put_none : at ≤ length out → Put t first from budget out at out at from
+  put_none room =
       record {
         since = omega arith;
-        some = h;
         place = omega arith;
         long = refl;
         puts = λ p ls a b. partly_room (from - from) (omega arith) (partly_none (codes_from budget p ls from) room);
@@ -49,7 +47,6 @@ module _ (t : ProcedureRead) (first : LiteralTable) (from budget : ℕ) (out : L
     put_next more room second v held on =
         record {
           since = omega (arith, s.since);
-          some = omega arith;
           place = omega (arith, s.place, s.since);
           long = (one_byte out' end v room).long ∙ s.long;
           puts = λ p ls a b. next p ls a b;
@@ -68,11 +65,11 @@ module _ (t : ProcedureRead) (first : LiteralTable) (from budget : ℕ) (out : L
             ∙ ap (λ (c : ℕ). c ∷ codes_from budget p ls (j + 1)) (sym is) in
             partly_room ((j + 1) - from) (omega (arith, s.since)) (partly_next (v ∷ []) (codes_from budget p ls (j + 1)) (s.puts p ls a b) (one_byte out' end v room) left)
 
-    pub put_all : t.many ≤ j → PutsWith t first from budget out at end out'
+    pub put_all : j ≡ t.many → PutsWith t first from budget out at end out'
     put_all done = record { puts = λ p ls a b. all p ls a b }
       where
         all : (p : Procedure) (ls : List Literal) → Holds t p → HoldsLines p first ls → Written (t.many - from) out at (codes_from budget p ls from) out' end
         all p ls a b =
             let none : drop j p.branches ≡ [] = length-nil (drop j p.branches) (omega (arith, length-drop j p.branches, count_held t p a)) in
-            more_room (t.many - from) (omega (arith, s.some))
+            more_room (t.many - from) (omega arith)
             (partly_all (s.puts p ls a b) (ap (λ (l : List (List Literal)). codes_of budget p (map (λ ms. ls ++ ms) l)) none))

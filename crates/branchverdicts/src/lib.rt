@@ -34,12 +34,10 @@ fn put_with(
     let rows = t.rows;
     let lines = t.lines;
     let mut next = at;
-    let mut j = from;
-    while j < t.many {
+    for j in from..t.many {
         let second = lines[j];
         out[next] = verdicts::verdict_on(types, rows, first, second, budget);
         next += 1;
-        j += 1;
     }
     next
 }
@@ -52,11 +50,9 @@ fn put_pairs(t: ProcedureRead, budget: u32, out: &mut [u8], at: usize) -> usize
 {
     let lines = t.lines;
     let mut next = at;
-    let mut i: usize = 0;
-    while i < t.many {
+    for i in 0..t.many {
         let first = lines[i];
         next = put_with(t, first, i + 1, budget, out, next);
-        i += 1;
     }
     next
 }

@@ -1,12 +1,12 @@
 -- Bytes that fit and bytes that don't, and bytes put behind those that were put. Assumes nothing.
 use mathlib.Core.Path.{◌≡◌, refl, ap, ap₂, sym, ◌∙◌, subst}
 use mathlib.Core.Bool.{true, false, false≢true}
-use mathlib.Core.List.{List, [], ◌++◌, append_assoc, append-nil}
-use Prim.Native.Nat.{ℕ, suc, ◌+◌, ◌≤◌, ◌<◌}
+use mathlib.Core.List.{List, [], ◌++◌, append_assoc}
+use Prim.Native.Nat.{ℕ, ◌+◌, ◌≤◌, ◌<◌}
 use native.Mathlib.Omega.{arith}
 use lib.Dec.{leb}
-use lib.ListN.{length, take, drop, replicate, drop_of_length-le, get_or-replicate, length-append, length-replicate, set}
-use lib.Seq.{drop_at, drop-drop, length-take-le, length-sets, paste, paste-suc, sets, sets-eq, take_all, take_at}
+use lib.ListN.{length, take, drop, length-append}
+use lib.Seq.{drop_at, drop-drop, length-take-le, length-sets, sets, sets-eq, take_at}
 use borrow.Author.Tests.{le-leb, leb-false, leb-true, lt-leb}
 use Rattle.bytebuffer.specs.declared.End.{End}
 use Rattle.bytebuffer.specs.Puts.{Puts}
@@ -77,18 +77,3 @@ module _ {out : List ℕ} {at : ℕ} where
         rest =
             let both : r.at + length more ≡ at + length (bytes ++ more) = omega (arith, length-append bytes more, w.ends q) in
             sym (drop-drop (length more) r.at out') ∙ ap (drop (length more)) back ∙ drop-drop (length more) r.at out ∙ ap (λ (k : ℕ). drop k out) both
-
--- ---- zeros
-
-pub zero_next : (out : List ℕ) (i : ℕ) → i < length out → set (paste out 0 (replicate (length out) 0) i) i 0 ≡ paste out 0 (replicate (length out) 0) (i + 1)
-zero_next out i h =
-    let here : i ≡ 0 + i = omega arith in
-    let next : suc i ≡ i + 1 = omega arith in
-    let zeros : List ℕ = replicate (length out) 0 in
-    ap₂ (λ (k v : ℕ). set (paste out 0 zeros i) k v) here (sym (get_or-replicate (length out) i 0 0 h))
-    ∙ paste-suc out 0 zeros i 0 (omega arith) (omega (arith, length-replicate {A = ℕ} (length out) 0)) ∙ ap (paste out 0 zeros) next
-
-pub all_zero : (out : List ℕ) (i : ℕ) → i ≡ length out → paste out 0 (replicate (length out) 0) i ≡ replicate (length out) 0
-all_zero out i e =
-    ap₂ (λ (a b : List ℕ). a ++ b) (take_all i (replicate (length out) 0) (omega (arith, length-replicate {A = ℕ} (length out) 0))) (drop_of_length-le out {i = 0 + i} (omega arith))
-    ∙ append-nil (replicate (length out) 0)

@@ -63,9 +63,5 @@ pub fn put_three(out: &mut [u8], at: usize, a: u8, b: u8, c: u8) -> End
 pub fn clear(out: &mut [u8])
     ensures { out.new ≡ replicate (length out.old) 0 }
 {
-    let mut i: usize = 0;
-    while i < out.len() {
-        out[i] = 0;
-        i += 1;
-    }
+    out.fill(0);
 }

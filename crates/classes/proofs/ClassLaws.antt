@@ -1,6 +1,6 @@
 -- Renaming a class maps the array in place; adding a fact is a merge or a cut label. Assumes nothing.
 use mathlib.Core.Path.{◌≡◌, refl, ap, sym, ◌∙◌, subst}
-use mathlib.Core.Logic.{◌⊎◌, inl, inr}
+use mathlib.Core.Logic.{◌≢◌}
 use mathlib.Core.Bool.{Bool, true, false, cond, not}
 use mathlib.Core.List.{List, [], ◌∷◌, map}
 use Prim.Native.Nat.{ℕ, zero, suc, ◌+◌, ◌≤◌, ◌<◌, max, min}
@@ -8,7 +8,8 @@ use native.Mathlib.Omega.{arith}
 use lib.Dec.{eqb}
 use lib.ListN.{length, get_or, set}
 use borrow.Author.Tests.{eq-eqb, ne_eqb}
-use Rattle.laws.proofs.InPlace.{front-all, front_at, front_length, front-next, map_front}
+use native.Mathlib.Numerals.{add-one}
+use Rattle.laws.proofs.InPlace.{front-all, front_at, front-next, map_front}
 use Rattle.guard.specs.Closure.{Fact, Fact.same, Fact.within, State, add, class_of, holds, merge, merge_unless, rename}
 use Rattle.classes.specs.Held.{Held, state}
 
@@ -24,24 +25,17 @@ module _ (low high : ℕ) where
   abbrev pub renamed_front : ℕ → List ℕ → List ℕ
   renamed_front k cs = map_front renamed k cs
 
-  pub rename-next : (k : ℕ) (cs now : List ℕ) (v : ℕ) → now ≡ renamed_front k cs → k < length cs
-      → ((get_or now k 0 ≡ high) × (v ≡ low)) ⊎ (¬ (get_or now k 0 ≡ high) × (v ≡ get_or now k 0)) → set now k v ≡ renamed_front (k + 1) cs
-  rename-next k cs now v e h w =
-      let n : k + 1 ≡ suc k = omega arith in
-      ap (λ (l : List ℕ). set l k v) e ∙ front-next renamed k cs 0 v h (value w) ∙ ap (λ (i : ℕ). renamed_front i cs) (sym n)
-    where
-      old : get_or now k 0 ≡ get_or cs k 0
-      old = ap (λ (l : List ℕ). get_or l k 0) e ∙ front_at renamed k cs 0
+  -- the next class is the high one, or another
+  pub next_renamed : (k : ℕ) (cs now : List ℕ) → now ≡ renamed_front k cs → k < length cs → get_or now k 0 ≡ high → set now k low ≡ renamed_front (k + 1) cs
+  next_renamed k cs now e h q = rw (e, add-one) (front-next renamed k cs 0 low h (grind (arith, eq-eqb, front_at renamed k cs 0)))
 
-      value : ((get_or now k 0 ≡ high) × (v ≡ low)) ⊎ (¬ (get_or now k 0 ≡ high) × (v ≡ get_or now k 0)) → v ≡ renamed (get_or cs k 0)
-      value (inl p) = p.1 ∙ sym (ap (λ (b : Bool). cond b low (get_or cs k 0)) (eq-eqb _ _ (sym old ∙ p.0)))
-      value (inr p) = p.1 ∙ old ∙ sym (ap (λ (b : Bool). cond b low (get_or cs k 0)) (ne_eqb _ _ (λ q. p.0 (old ∙ q))))
+  pub next_kept : (k : ℕ) (cs now : List ℕ) → now ≡ renamed_front k cs → k < length cs → get_or now k 0 ≢ high → set now k (get_or now k 0) ≡ renamed_front (k + 1) cs
+  next_kept k cs now e h q =
+      let v : get_or now k 0 ≡ renamed (get_or cs k 0) = grind (arith, ne_eqb, front_at renamed k cs 0) in
+      rw (v, e, add-one) (front-next renamed k cs 0 _ h refl)
 
-  pub rename-length : (k : ℕ) (cs : List ℕ) → length (renamed_front k cs) ≡ length cs
-  rename-length = front_length renamed
-
-  pub rename-all : (k : ℕ) (cs : List ℕ) → length cs ≤ k → renamed_front k cs ≡ rename low high cs
-  rename-all k cs h = front-all renamed k cs h ∙ rename-map cs
+  pub rename_all : (k : ℕ) (cs : List ℕ) → length cs ≤ k → renamed_front k cs ≡ rename low high cs
+  rename_all k cs h = front-all renamed k cs h ∙ rename-map cs
 
 -- ---- a fact
 
@@ -49,8 +43,8 @@ module _ (s : State) (i j : ℕ) where
   pub same_already : class_of s i ≡ class_of s j → s ≡ add s (same i j)
   same_already e = sym (ap (λ (b : Bool). merge_unless b s (class_of s i) (class_of s j)) (eq-eqb _ _ e))
 
-  pub same-holds : class_of s i ≡ class_of s j → false ≡ not (holds s (same i j))
-  same-holds e = sym (ap not (eq-eqb _ _ e))
+  pub same_holds : class_of s i ≡ class_of s j → false ≡ not (holds s (same i j))
+  same_holds e = sym (ap not (eq-eqb _ _ e))
 
   pub same_new : ¬ (class_of s i ≡ class_of s j) → merge s (class_of s i) (class_of s j) ≡ add s (same i j)
   same_new n = sym (ap (λ (b : Bool). merge_unless b s (class_of s i) (class_of s j)) (ne_eqb _ _ n))
@@ -59,6 +53,9 @@ module _ (s : State) (i j : ℕ) where
   same_fails n = sym (ap not (ne_eqb _ _ n))
 
 -- ---- the arrays stay as they have to be
+
+pub class_there : (cs : List ℕ) (i : ℕ) → Held cs → get_or cs i 0 < 96
+class_there cs i h = h.there i
 
 rename-there : (low high : ℕ) (cs : List ℕ) → low < 96 → ((i : ℕ) → get_or cs i 0 < 96) → (i : ℕ) → get_or (rename low high cs) i 0 < 96
 rename-there low high [] small there i = omega arith

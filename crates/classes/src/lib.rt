@@ -16,6 +16,7 @@ pub fn class_of(classes: &[u8; 96], i: u8) -> u8
 }
 
 // The label of a term, which is that of its class.
+#[tactic(auto, using(crate::proofs::ClassLaws::class_there))]
 pub fn label_of(classes: &[u8; 96], labels: &[u16; 96], i: u8) -> u16
     requires { (i < 96) × Held classes.now }
     ensures { result ≡ label_of (state classes.now labels.now) i }
@@ -24,18 +25,15 @@ pub fn label_of(classes: &[u8; 96], labels: &[u16; 96], i: u8) -> u16
 }
 
 // Class `high` becomes `low`.
+#[tactic(auto, using(crate::proofs::ClassLaws::next_kept, crate::proofs::ClassLaws::next_renamed, crate::proofs::ClassLaws::rename_all))]
 fn rename(classes: &mut [u8; 96], low: u8, high: u8)
     requires { length classes.old ≡ 96 }
     ensures { classes.new ≡ rename low high classes.old }
 {
-    let mut k: usize = 0;
-    while k < 96 {
-        let mut class = classes[k];
-        if class == high {
-            class = low;
+    for class in classes {
+        if *class == high {
+            *class = low;
         }
-        classes[k] = class;
-        k += 1;
     }
 }
 
@@ -56,6 +54,7 @@ fn merge(classes: &mut [u8; 96], labels: &mut [u16; 96], c: u8, d: u8)
 }
 
 // Two terms become equal; true if they were not.
+#[tactic(auto, using(crate::proofs::ClassLaws::same_new, crate::proofs::ClassLaws::same_already, crate::proofs::ClassLaws::same_fails, crate::proofs::ClassLaws::same_holds))]
 pub fn unite(classes: &mut [u8; 96], labels: &mut [u16; 96], i: u8, j: u8) -> bool
     requires { (i < 96) × (j < 96) × Held classes.old }
     ensures labels_after { state classes.new labels.new ≡ add (state classes.old labels.old) (same i j) }
@@ -71,6 +70,7 @@ pub fn unite(classes: &mut [u8; 96], labels: &mut [u16; 96], i: u8, j: u8) -> bo
 }
 
 // The label of a term is cut down to a mask; true if it was not inside it.
+#[tactic(auto, using(crate::proofs::ClassLaws::class_there))]
 pub fn restrict(classes: &[u8; 96], labels: &mut [u16; 96], i: u8, mask: u16) -> bool
     requires { (i < 96) × Held classes.now }
     ensures labels_after { state classes.now labels.new ≡ add (state classes.now labels.old) (within i mask) }

@@ -1,25 +1,11 @@
--- Zeros written one after the other, and a list whose end is replaced by as many zeros. Assumes nothing.
-use mathlib.Core.Path.{◌≡◌, refl, ap, sym, ◌∙◌}
-use mathlib.Core.List.{List, [], ◌∷◌, ◌++◌, append-nil}
-use Prim.Native.Nat.{ℕ, zero, suc, ◌+◌, ◌-◌, ◌≤◌, ◌<◌}
-use native.Mathlib.Numerals.{add-one}
+-- Zeros in place of a list, and a list whose end is replaced by as many zeros. Assumes nothing.
+use mathlib.Core.Path.{◌≡◌, ap, sym, ◌∙◌}
+use mathlib.Core.List.{List, [], ◌++◌, append-nil}
+use Prim.Native.Nat.{ℕ, ◌-◌, ◌≤◌}
 use native.Mathlib.Omega.{arith}
 use lib.IntN.{ℤ, pos}
-use lib.ListN.{length, take, drop, set, replicate, drop_of_length-le, length-append, length-drop, length-replicate}
+use lib.ListN.{length, take, drop, replicate, drop_of_length-le, length-append, length-drop, length-replicate}
 use lib.Seq.{drop_at, length-take-le, take_at}
-
--- ---- the loop
-
-pub zero_next : (z : ℤ) (n : ℕ) (xs : List ℤ) → n < length xs → set (replicate n z ++ drop n xs) n z ≡ replicate (n + 1) z ++ drop (n + 1) xs
-zero_next z n xs h = rw add-one (go n xs h)
-  where
-    go : (n : ℕ) (xs : List ℤ) → n < length xs → set (replicate n z ++ drop n xs) n z ≡ replicate (suc n) z ++ drop (suc n) xs
-    go n [] h = absurd (omega arith)
-    go zero (x ∷ xs) h = refl
-    go (suc n) (x ∷ xs) h = ap (λ (l : List ℤ). z ∷ l) (go n xs (omega arith))
-
-pub zero_all : (z : ℤ) (n : ℕ) (xs : List ℤ) → n ≡ length xs → replicate n z ++ drop n xs ≡ replicate (length xs) z
-zero_all z n xs e = ap (λ (l : List ℤ). replicate n z ++ l) (drop_of_length-le xs {i = n} (omega arith)) ∙ append-nil (replicate n z) ∙ ap (λ (k : ℕ). replicate k z) e
 
 pub long_zero : (xs ys : List ℤ) → ys ≡ replicate (length xs) (pos 0) → length ys ≡ length xs
 long_zero xs ys e = ap (λ (l : List ℤ). length l) e ∙ length-replicate (length xs) (pos 0)

@@ -7,11 +7,7 @@ ghost use Rattle.std.specs.Prelude.{◌≡◌, pos, length, replicate};
 pub fn clear(numbers: &mut [i32])
     ensures { numbers.new ≡ replicate (length numbers.old) (pos 0) }
 {
-    let mut i: usize = 0;
-    while i < numbers.len() {
-        numbers[i] = 0;
-        i += 1;
-    }
+    numbers.fill(0);
 }
 
 // Both buffers of a call.

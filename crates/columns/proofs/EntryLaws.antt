@@ -5,7 +5,7 @@ use Prim.Native.Nat.{ℕ, ◌+◌, ◌*◌, ◌-◌, ◌%◌, ◌^◌, ◌≤◌
 use native.Mathlib.Nat.{one-mul}
 use native.Mathlib.Omega.{arith}
 use lib.Dec.{lit<}
-use lib.Pow.{shl_exact}
+use lib.Pow.{pow_pos, shl_exact}
 use borrow.Author.Tests.{lt-ltb, le-ltb}
 use Rattle.guard.specs.Closure.{every_variant}
 use Rattle.columns.specs.Entries.{bit_of, ones_of, plus_one}
@@ -13,13 +13,12 @@ use Rattle.columns.specs.Entries.{bit_of, ones_of, plus_one}
 pub shifted_one : (v : ℕ) → v < 16 → (1 * 2 ^ v) % 2 ^ 16 ≡ 2 ^ v
 shifted_one v h = shl_exact 1 v 16 (lit< tt) (omega arith) ∙ one-mul (2 ^ v)
 
+-- and that there is something to subtract from
+pub ruleset ones = (shifted_one, pow_pos)
+
 pub bit_is : (v : ℕ) → v < 16 → bit_of v ≡ 2 ^ v
 unfolding bit_of
 bit_is v h = ap (λ (b : Bool). cond b (2 ^ v) 0) (lt-ltb v 16 h)
-
-pub bit_past : (v : ℕ) → 16 ≤ v → bit_of v ≡ 0
-unfolding bit_of
-bit_past v h = ap (λ (b : Bool). cond b (2 ^ v) 0) (le-ltb v 16 h)
 
 pub ones_are : (n : ℕ) → n < 16 → ones_of n ≡ 2 ^ n - 1
 unfolding ones_of

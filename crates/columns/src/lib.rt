@@ -9,11 +9,7 @@ ghost use Rattle.columns.specs.Entries.{bit_of, ones_of, plus_one, plus_one_if};
 pub fn at(column: &[u8], i: u16) -> u8
     ensures { result ≡ get_or column.now i 0 }
 {
-    let k = i as usize;
-    if k < column.len() {
-        return column[k];
-    }
-    0
+    column.get(i as usize).copied().unwrap_or(0)
 }
 
 pub fn byte(column: &[u8], i: u16) -> u16
@@ -40,13 +36,11 @@ pub fn choose_byte(test: bool, x: u8, y: u8) -> u8
 pub fn minus(x: u16, y: u16) -> u16
     ensures { result ≡ x - y }
 {
-    if x < y {
-        return 0;
-    }
-    x - y
+    x.saturating_sub(y)
 }
 
 // The mask of one variant.
+#[tactic(auto, using(crate::proofs::EntryLaws::shifted_one), unfolding(crate::specs::Entries::bit_of))]
 pub fn bit_of(v: u16) -> u16
     ensures { result ≡ bit_of v }
 {
@@ -57,6 +51,7 @@ pub fn bit_of(v: u16) -> u16
 }
 
 // The mask of the first `n` variants.
+#[tactic(auto, using(crate::proofs::EntryLaws::ones), unfolding(crate::specs::Entries::ones_of))]
 pub fn ones_of(n: u16) -> u16
     ensures { result ≡ ones_of n }
 {
@@ -67,6 +62,7 @@ pub fn ones_of(n: u16) -> u16
 }
 
 // The number of a type, plus one.
+#[tactic(auto, unfolding(crate::specs::Entries::plus_one))]
 fn plus_one(t: u16) -> u8
     ensures { result ≡ plus_one t }
 {
@@ -76,6 +72,7 @@ fn plus_one(t: u16) -> u8
     0
 }
 
+#[tactic(auto, unfolding(crate::specs::Entries::plus_one_if))]
 pub fn plus_one_if(test: bool, t: u16) -> u8
     ensures { result ≡ plus_one_if test t }
 {

@@ -138,13 +138,11 @@ fn put_column(types: TypeTable, rows: RowTable, j: usize, out: &mut [u8], at: us
 {
     let many = rows.many;
     let mut end = End { fits: true, at };
-    let mut r: usize = 0;
-    while r < many {
+    for r in 0..many {
         if !end.fits {
             return end;
         }
         end = put_entry(types, rows, r, j, out, end.at);
-        r += 1;
     }
     end
 }
@@ -156,13 +154,11 @@ fn put_columns(types: TypeTable, rows: RowTable, out: &mut [u8], at: usize) -> E
     ensures { PutsColumns types rows out.old at result out.new }
 {
     let mut end = End { fits: true, at };
-    let mut j: usize = 0;
-    while j < 6 {
+    for j in 0..6 {
         if !end.fits {
             return end;
         }
         end = put_column(types, rows, j, out, end.at);
-        j += 1;
     }
     end
 }

@@ -5,7 +5,6 @@ use mathlib.Core.List.{List, [], ◌∷◌}
 use Prim.Native.Nat.{ℕ, ◌≤◌, ◌<◌}
 use native.Mathlib.Omega.{arith}
 use lib.Dec.{eqb}
-use borrow.Author.Tests.{eq-eqb, ne_eqb}
 use Rattle.laws.specs.Lists.{all, from, when}
 use Rattle.laws.proofs.Bools.{by_test}
 use Rattle.laws.proofs.Lists.{all_true, all_true_inv, from_bounds, mem_from}
@@ -17,18 +16,6 @@ use Rattle.congruence.specs.Due.{alike, owners_due, part_due, parts_due, same_pa
 
 module _ (shapes : List ℕ) (s : State) (k : ℕ) where
   module _ (i : ℕ) where
-    pub other-kind : ¬ (kind_at shapes k ≡ kind_at shapes i) → false ≡ alike shapes s k i
-    unfolding alike
-    other-kind n = no_and _ (ne_eqb _ _ n)
-
-    pub not_active : kind_at shapes k ≡ kind_at shapes i → active shapes s k ≡ false → false ≡ alike shapes s k i
-    unfolding alike
-    not_active e n = no_and _ n ∙ yes_and _ (eq-eqb _ _ e)
-
-    pub both-active : kind_at shapes k ≡ kind_at shapes i → active shapes s k ≡ true → active shapes s i ≡ alike shapes s k i
-    unfolding alike
-    both-active e a = yes_and _ a ∙ yes_and _ (eq-eqb _ _ e)
-
     pub inactive_alike : active shapes s k ≡ false → alike shapes s k i ≡ false
     unfolding alike
     inactive_alike n = by_test (eqb (kind_at shapes k) (kind_at shapes i)) (λ e. sym (yes_and _ e) ∙ sym (no_and _ n)) (λ e. sym (no_and _ e))

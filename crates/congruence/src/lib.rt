@@ -10,21 +10,19 @@ ghost use Rattle.congruence.specs.Due.{alike, parts_due, same_owners, same_parts
 use slots::{active, kind, many, owner, part, same_class};
 
 // Two shapes of one variant.
+#[tactic(auto, unfolding(crate::specs::Due::alike))]
 fn alike(classes: &[u8; 96], labels: &[u16; 96], shapes: &[u16; 256], k: usize, i: usize) -> bool
     requires k_bound { (k < 30) × (i < 30) }
     requires held { Held classes.now }
     requires shapes_fit { ShapesFit shapes.now }
     ensures { result ≡ alike shapes.now (state classes.now labels.now) k i }
 {
-    if kind(shapes, k) != kind(shapes, i) {
-        return false;
-    }
-    if !active(classes, labels, shapes, k) {
-        return false;
-    }
-    active(classes, labels, shapes, i)
+    kind(shapes, k) == kind(shapes, i)
+        && active(classes, labels, shapes, k)
+        && active(classes, labels, shapes, i)
 }
 
+#[tactic(auto, using(crate::proofs::Tests::parts_same))]
 fn same_parts(
     classes: &[u8; 96],
     labels: &[u16; 96],
@@ -36,13 +34,10 @@ fn same_parts(
     requires shapes_fit { ShapesFit shapes.now }
     ensures { result ≡ same_parts shapes.now (state classes.now labels.now) k i }
 {
-    let end = many(shapes, k);
-    let mut p: usize = 0;
-    while p < end {
+    for p in 0..many(shapes, k) {
         if !same_class(classes, labels, part(shapes, i, p), part(shapes, k, p)) {
             return false;
         }
-        p += 1;
     }
     true
 }
@@ -65,12 +60,8 @@ fn join_parts(
 {
     let count = many(shapes, k);
     let mut changed = false;
-    let mut p: usize = 0;
-    while p < count {
-        if classes::unite(classes, labels, part(shapes, i, p), part(shapes, k, p)) {
-            changed = true;
-        }
-        p += 1;
+    for p in 0..count {
+        changed |= classes::unite(classes, labels, part(shapes, i, p), part(shapes, k, p));
     }
     changed
 }
@@ -118,12 +109,8 @@ pub fn pass_shape(
         return false;
     }
     let mut changed = false;
-    let mut i: usize = 0;
-    while i < k {
-        if meet_shapes(classes, labels, shapes, k, i) {
-            changed = true;
-        }
-        i += 1;
+    for i in 0..k {
+        changed |= meet_shapes(classes, labels, shapes, k, i);
     }
     changed
 }

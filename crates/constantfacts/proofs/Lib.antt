@@ -1,2 +1,1 @@
-pub mod EqualTests
 pub mod EqualLaws

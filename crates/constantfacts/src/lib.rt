@@ -7,6 +7,7 @@ ghost use Rattle.guard.specs.Closure.{add};
 ghost use Rattle.classes.specs.Held.{Held, state};
 ghost use Rattle.constantfacts.specs.Equal.{constants_at, constants_by, constants_meet, same_constant};
 
+#[tactic(auto, unfolding(crate::specs::Equal::same_constant))]
 fn same_constant(constants: &[u8; 32], values: &[i64; 24], k: usize, i: usize) -> bool
     requires { (k < 30) × (i < 30) }
     ensures { result ≡ same_constant constants.now values.now k i }
@@ -23,6 +24,7 @@ fn same_constant(constants: &[u8; 32], values: &[i64; 24], k: usize, i: usize) -
 }
 
 // Constants of one type and one value are equal.
+#[tactic(auto, unfolding(crate::specs::Equal::constants_meet))]
 fn meet_constants(
     classes: &mut [u8; 96],
     labels: &mut [u16; 96],
@@ -47,6 +49,7 @@ fn meet_constants(
 }
 
 // A constant and those before it.
+#[tactic(auto, using(facts::proofs::Adding::next_slot), unfolding(crate::specs::Equal::constants_at))]
 fn join_constant(
     classes: &mut [u8; 96],
     labels: &mut [u16; 96],
@@ -59,13 +62,12 @@ fn join_constant(
     ensures labels_after { state classes.new labels.new ≡ foldl add (state classes.old labels.old) (constants_at constants.now values.now k) }
     ensures held_2 { Held classes.new }
 {
-    let mut i: usize = 0;
-    while i < k {
+    for i in 0..k {
         meet_constants(classes, labels, constants, values, k, i);
-        i += 1;
     }
 }
 
+#[tactic(auto, using(facts::proofs::Adding::next_slot), unfolding(crate::specs::Equal::constants_by))]
 pub fn join_constants(
     classes: &mut [u8; 96],
     labels: &mut [u16; 96],
@@ -76,9 +78,7 @@ pub fn join_constants(
     ensures labels_after { state classes.new labels.new ≡ foldl add (state classes.old labels.old) (constants_by constants.now values.now) }
     ensures held { Held classes.new }
 {
-    let mut k: usize = 0;
-    while k < 30 {
+    for k in 0..30 {
         join_constant(classes, labels, constants, values, k);
-        k += 1;
     }
 }

@@ -1,19 +1,18 @@
 -- What is marked from a class on is what is a part of it; and the search for the lowest term. Assumes nothing.
 use mathlib.Core.Path.{◌≡◌, refl, sym, subst, ◌∙◌}
-use mathlib.Core.Bool.{Bool, true, false, false≢true}
 use mathlib.Core.List.{List}
 use mathlib.Core.Logic.{inl, inr}
-use Prim.Native.Nat.{ℕ, ◌+◌, ◌≤◌, ◌<◌}
+use Prim.Native.Nat.{ℕ, ◌<◌}
 use native.Mathlib.Omega.{arith}
-use lib.Dec.{eqb, ltb}
+use lib.Dec.{eqb}
 use lib.ListN.{get_or, get_or-replicate, set}
-use borrow.Author.Tests.{eqb-false, eqb-true, ltb-false, ltb-true}
-use Rattle.laws.proofs.Bools.{by_test, either}
+use borrow.Author.Tests.{eqb-false, eqb-true}
+use Rattle.laws.proofs.Bools.{either}
 use Rattle.laws.proofs.Stores.{set_cases}
 use Rattle.guard.specs.Closure.{State, class_of}
 use Rattle.arrays.specs.Slots.{owner_at, sort_at}
 use Rattle.needed.specs.Needed.{AllFollowed, Leads, Marked, Steps, Steps.done, Steps.then, no_marks, own_class, part_class}
-use Rattle.cycles.specs.Cycles.{Inside, LowestOf, PartOf, PartOf.its_part, PartOf.of_part, Tells}
+use Rattle.cycles.specs.Cycles.{Inside, PartOf, PartOf.its_part, PartOf.of_part, Tells}
 
 module _ (shapes : List ℕ) (s : State) (c : ℕ) (inside : (x : ℕ) → class_of s x < 96) where
   -- what is marked is a part
@@ -47,9 +46,6 @@ module _ (shapes : List ℕ) (s : State) (c : ℕ) (inside : (x : ℕ) → class
 -- ---- the answer at a term
 
 module _ (shapes sorts : List ℕ) (s : State) (x : ℕ) where
-  pub no-term : sort_at sorts x ≡ 0 → Tells (Inside shapes sorts s x) false
-  no-term e = record { yes = λ q. absurd (false≢true q); no = λ q w. w.0 e }
-
   module _ (inside : (x : ℕ) → class_of s x < 96) (there : ¬ (sort_at sorts x ≡ 0)) (c : ℕ) (class : c ≡ class_of s x) {l m : List ℕ} (clear : l ≡ no_marks) (f : AllFollowed shapes s c l m) where
     pub told : Tells (Inside shapes sorts s x) (eqb (get_or m c 0) 0)
     told =
@@ -63,15 +59,3 @@ module _ (shapes sorts : List ℕ) (s : State) (x : ℕ) where
 module _ (Claim : ℕ → Type 0) where
   abbrev pub NoneBelow : ℕ → Type 0
   NoneBelow k = (x : ℕ) → x < k → ¬ Claim x
-
-  pub none_yet : NoneBelow 0
-  none_yet x h w = omega arith
-
-  pub none-next : (k : ℕ) (r : Bool) → NoneBelow k → Tells (Claim k) r → r ≡ false → NoneBelow (k + 1)
-  none-next k r h t e x l = by_test (ltb x k) (λ b. h x (ltb-true _ _ b)) (λ b. let z : k ≡ x = omega (arith, ltb-false x k b) in subst (λ (y : ℕ). ¬ Claim y) z (t.no e))
-
-  pub found : (n k : ℕ) (r : Bool) → k < n → NoneBelow k → Tells (Claim k) r → r ≡ true → LowestOf Claim n k
-  found n k r l h t e = record { most = omega arith; here = λ q. t.yes e; none = h }
-
-  pub nowhere : (n k : ℕ) → n ≤ k → NoneBelow k → LowestOf Claim n n
-  nowhere n k l h = record { most = omega arith; here = λ q. absurd (omega arith); none = λ x q. h x (omega arith) }

@@ -41,12 +41,10 @@ pub fn inside_itself(
     requires shapes_fit { ShapesFit shapes.now }
     ensures { LowestOf (Inside shapes.now sorts.now (state classes.now labels.now)) 78 result }
 {
-    let mut x: u8 = 0;
-    while x < 78 {
+    for x in 0..78 {
         if is_inside(classes, labels, shapes, sorts, spare, x) {
             return x;
         }
-        x += 1;
     }
     78
 }

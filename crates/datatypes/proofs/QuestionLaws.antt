@@ -12,8 +12,8 @@ use Rattle.datatypes.specs.Facts.{all_growing, growing}
 use Rattle.finite.specs.TypeColumns.{fields_at, types_in}
 use Rattle.finite.specs.Finite.{finite_column, flagged}
 use Rattle.finite.proofs.FiniteLaws.{finite-flagged}
-use Rattle.finite.proofs.FlatTypes.{fields-any, fields-length, types-all}
-use Rattle.finite.proofs.Walks.{from_start}
+use Rattle.finite.proofs.FlatTypes.{fields-any, fields_in_range, fields-length, types-all, variants-all}
+use Rattle.finite.proofs.Walks.{all_none, all_turn, any_none, any_turn, from_start}
 
 module _ (arities sorts known : List ℕ) (w : ℕ) where
   -- a field of infinite type
@@ -48,3 +48,10 @@ all-growing-start many variants first arities sorts known = types-all many varia
 pub growing-question : (ts : Types) → all_growing (finite_column ts) ts ≡ infinite_fields ts
 unfolding all_growing growing
 growing-question ts = ap (λ (p : ℕ → Bool). all (all (λ fs. eqb (length fs) 0 || any (λ t. not (p t)) fs)) ts) (finite-flagged ts)
+
+-- a variant, a type and all types, a turn at a time
+pub ruleset one_variant = (growing-none, growing-start, infinite-yes, infinite-no, any_turn, any_none)
+
+pub ruleset one_type = (variants-all, fields_in_range, all_turn, all_none)
+
+pub ruleset all_types = (all-growing-start, all_turn, all_none)

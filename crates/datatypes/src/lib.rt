@@ -13,6 +13,7 @@ use guard::Question;
 use tables::TypeTable;
 
 // Question 9 for variant `w`: does it have a field of infinite type, or no field?
+#[tactic(auto, using(crate::proofs::QuestionLaws::one_variant))]
 fn variant_growing(arities: &[u8; 48], sorts: &[u8; 144], finite: &[u8; 6], w: usize) -> bool
     requires fields_in_range { FieldsInRange arities.now sorts.now }
     requires w_bound { w < 48 }
@@ -22,18 +23,17 @@ fn variant_growing(arities: &[u8; 48], sorts: &[u8; 144], finite: &[u8; 6], w: u
     if arity == 0 {
         return true;
     }
-    let mut j: usize = 0;
-    while j < arity {
+    for j in 0..arity {
         let t = sorts[3 * w + j] as usize;
         if finite[t] != 1 {
             return true;
         }
-        j += 1;
     }
     false
 }
 
 // Question 9 for the variants of type `t`.
+#[tactic(auto, using(crate::proofs::QuestionLaws::one_type))]
 fn type_growing(
     many: usize,
     variants: &[u8; 6],
@@ -49,17 +49,16 @@ fn type_growing(
 {
     let n = variants[t] as usize;
     let start = first[t] as usize;
-    let mut v: usize = 0;
-    while v < n {
+    for v in 0..n {
         if !variant_growing(arities, sorts, finite, start + v) {
             return false;
         }
-        v += 1;
     }
     true
 }
 
 // Question 9: does every variant with fields have a field of infinite type?
+#[tactic(auto, using(crate::proofs::QuestionLaws::all_types))]
 fn all_growing(
     many: usize,
     variants: &[u8; 6],
@@ -71,12 +70,10 @@ fn all_growing(
     requires { InRange many variants.now first.now arities.now sorts.now }
     ensures { result ≡ all_growing finite.now (types_in many variants.now first.now arities.now sorts.now) }
 {
-    let mut t: usize = 0;
-    while t < many {
+    for t in 0..many {
         if !type_growing(many, variants, first, arities, sorts, finite, t) {
             return false;
         }
-        t += 1;
     }
     true
 }

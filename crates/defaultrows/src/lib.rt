@@ -41,24 +41,20 @@ pub fn parts(
     let n = forms::arity(forms, t, v) as usize;
     let mut list = [0usize; 3];
     let mut count = many;
-    let mut p: usize = 0;
-    while p < n {
+    for p in 0..n {
         if p == c as usize {
             list[p] = row;
-            p += 1;
             continue;
         }
         let s = forms::sort(forms, t, v, p);
         let known = drawn[s as usize] as usize;
         if 0 < known {
             list[p] = known - 1;
-            p += 1;
             continue;
         }
         let d = default_row(forms, rows, drawn, count, s);
         list[p] = d.row;
         count = d.many;
-        p += 1;
     }
     PartRows {
         rows: list,
@@ -86,7 +82,7 @@ pub fn default_row(
     if 0 < known {
         return Drawn {
             row: known - 1,
-            many: many,
+            many,
         };
     }
     let table = forms.table;

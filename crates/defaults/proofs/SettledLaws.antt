@@ -6,12 +6,15 @@ use mathlib.Core.Bool.{Bool, true, false, cond, not, false≢true, ◌&&◌}
 use mathlib.Core.List.{List, ◌∷◌, map, []}
 use Prim.Native.Nat.{ℕ, suc, ◌+◌, ◌-◌, ◌≤◌, ◌<◌, zero}
 use native.Mathlib.Numerals.{add-one}
-use lib.ListN.{get_or, length}
+use lib.ListN.{get_or, length, take}
 use native.Mathlib.Omega.{arith}
 use lib.Dec.{eqb, ltb}
 use borrow.Author.Tests.{eq-eqb, ne_eqb, ltb-true, ltb-false}
 use mathlib.Core.Option.{Option, none, some}
 use native.Mathlib.Nat.{zero-add}
+use Rattle.std.specs.List.{list_any}
+use Rattle.std.proofs.lemmas.Grind.{common_steps}
+use Rattle.std.proofs.lemmas.List.{get_or-take}
 use Rattle.laws.specs.All.{All, All.more, All.none}
 use Rattle.laws.specs.Lists.{all, from}
 use Rattle.laws.proofs.Bools.{by_test}
@@ -23,9 +26,9 @@ use Rattle.defaults.specs.Settled.{all_settled, first_settled, is_settled, lowes
 use Rattle.finite.specs.TypeColumns.{column, fields_at, types_in}
 use Rattle.tables.specs.Layout.{default_column, pad, variant_of}
 use Rattle.tables.proofs.Columns.{pad_get}
-use Rattle.finite.proofs.FlatTypes.{variants-are}
+use Rattle.finite.proofs.FlatTypes.{fields-all, fields_in_range, variants-are}
 use Rattle.tables.proofs.Lookups.{map_at}
-use Rattle.finite.proofs.Walks.{all_positions, all_same, from_end, from_next, from_start}
+use Rattle.finite.proofs.Walks.{all_none, all_positions, all_same, all_turn, column-none, column-store, from_end, from_next, from_start}
 
 -- ---- a look at one type, and at all
 
@@ -37,9 +40,21 @@ pub settled-no : (settled : List ℕ) (t : ℕ) → get_or settled t 0 ≡ 255 �
 unfolding is_settled
 settled-no settled t e = ap not (eq-eqb _ _ e)
 
-pub settled-start : (settled : List ℕ) (n : ℕ) → all_settled settled n ≡ all (is_settled settled) (from (n - 0) 0)
-unfolding all_settled
-settled-start settled n = ap (all (is_settled settled)) (sym (from_start n))
+-- the fields of a variant, a turn at a time
+pub ruleset fields_settled = (settled-yes, settled-no, fields-all, all_turn, all_none)
+
+none-is : (xs : List ℕ) → all (λ x. not (eqb x 255)) xs ≡ not (list_any (λ x. eqb x 255) xs)
+none-is [] = refl
+none-is (x ∷ xs) = grind (arith, common_steps, none-is xs)
+
+pub settled_all : (settled : List ℕ) (n : ℕ) → n ≤ length settled → all_settled settled n ≡ not (list_any (λ x. eqb x 255) (take n settled))
+unfolding all_settled is_settled
+settled_all settled n h =
+    let l : length (take n settled) ≡ n = grind (arith, common_steps) in
+    all_same (is_settled settled) (λ i. not (eqb (get_or (take n settled) i 0) 255)) (from n 0)
+    (λ i m. ap (λ (x : ℕ). not (eqb x 255)) (sym (get_or-take n settled i 0 (omega (arith, (from_bounds n 0 i m).1)))))
+    ∙ ap (λ (k : ℕ). all (λ i. not (eqb (get_or (take n settled) i 0) 255)) (from k 0)) (sym l)
+    ∙ sym (all_positions (λ x. not (eqb x 255)) (take n settled) 0) ∙ none-is (take n settled)
 
 -- ---- the search for the lowest ready variant
 
@@ -47,38 +62,38 @@ module _ (many : ℕ) (variants first arities sorts ss : List ℕ) where
   abbrev ts : Types
   ts = types_in many variants first arities sorts
 
-  -- the variants of a type from one on
-  abbrev pub rest_of : ℕ → ℕ → ℕ → List Variant
-  rest_of t n v = map (λ v. fields_at arities sorts (get_or first t 0 + v)) (from (n - v) v)
-
   pub next-kept : (t : ℕ) → ¬ (get_or ss t 0 ≡ 255) → next_settled ss ts t ≡ get_or ss t 0
   unfolding next_settled
   next-kept t n = ap (λ (b : Bool). cond b (get_or ss t 0) (lowest_settled ss 0 (variants_of ts t))) (settled-yes ss t n)
 
-  pub next_start : (t : ℕ) → get_or ss t 0 ≡ 255 → t < many → next_settled ss ts t ≡ lowest_settled ss 0 (rest_of t (get_or variants t 0) 0)
+  pub next_start : (t : ℕ) → get_or ss t 0 ≡ 255 → t < many
+      → next_settled ss ts t ≡ lowest_settled ss 0 (map (λ v. fields_at arities sorts (get_or first t 0 + v)) (from (get_or variants t 0 - 0) 0))
   unfolding next_settled
   next_start t e h =
       ap (λ (b : Bool). cond b (get_or ss t 0) (lowest_settled ss 0 (variants_of ts t))) (settled-no ss t e)
       ∙ ap (lowest_settled ss 0) (variants-are many variants first arities sorts t h ∙ ap (map (λ v. fields_at arities sorts (get_or first t 0 + v))) (sym (from_start (get_or variants t 0))))
 
-  rest-next : (t n v : ℕ) → v < n → rest_of t n v ≡ fields_at arities sorts (get_or first t 0 + v) ∷ rest_of t n (v + 1)
-  rest-next t n v h = ap (map (λ v. fields_at arities sorts (get_or first t 0 + v))) (from_next v n h)
-
-  -- `answer` is what was said of a variant, `whole` what the search is for
-  module _ (t n v : ℕ) {whole : ℕ} {answer : Bool} (w : whole ≡ lowest_settled ss v (rest_of t n v)) where
-    pub next_stop : v < n → answer ≡ all (is_settled ss) (fields_at arities sorts (get_or first t 0 + v)) → answer ≡ true → v ≡ whole
-    unfolding lowest_settled
-    next_stop h e y = sym (w ∙ ap (lowest_settled ss v) (rest-next t n v h) ∙ ap (λ (b : Bool). cond b v (lowest_settled ss (suc v) (rest_of t n (v + 1)))) (sym e ∙ y))
-
-    pub next-on : v < n → answer ≡ all (is_settled ss) (fields_at arities sorts (get_or first t 0 + v)) → answer ≡ false → whole ≡ lowest_settled ss (v + 1) (rest_of t n (v + 1))
-    unfolding lowest_settled
-    next-on h e y =
-        w ∙ ap (lowest_settled ss v) (rest-next t n v h) ∙ ap (λ (b : Bool). cond b v (lowest_settled ss (suc v) (rest_of t n (v + 1)))) (sym e ∙ y)
-        ∙ ap (λ (k : ℕ). lowest_settled ss k (rest_of t n (v + 1))) (sym (add-one v))
-
-  pub next_end : (t n v : ℕ) {whole : ℕ} → whole ≡ lowest_settled ss v (rest_of t n v) → n ≤ v → 255 ≡ whole
+-- a turn of the search, and its end
+module _ (ss : List ℕ) (f : ℕ → Variant) (n v : ℕ) where
+  pub lowest_turn : v < n → lowest_settled ss v (map f (from (n - v) v)) ≡ cond (all (is_settled ss) (f v)) v (lowest_settled ss (v + 1) (map f (from (n - (v + 1)) (v + 1))))
   unfolding lowest_settled
-  next_end t n v w h = sym (w ∙ ap (λ (l : List ℕ). lowest_settled ss v (map (λ v. fields_at arities sorts (get_or first t 0 + v)) l)) (from_end v n h))
+  lowest_turn h =
+      ap (λ (l : List ℕ). lowest_settled ss v (map f l)) (from_next v n h)
+      ∙ ap (λ (k : ℕ). cond (all (is_settled ss) (f v)) v (lowest_settled ss k (map f (from (n - (v + 1)) (v + 1))))) (sym (add-one v))
+
+  pub lowest_none : n ≤ v → lowest_settled ss v (map f (from (n - v) v)) ≡ 255
+  unfolding lowest_settled
+  lowest_none h = ap (λ (l : List ℕ). lowest_settled ss v (map f l)) (from_end v n h)
+
+pub ruleset turns = (next-kept, next_start, lowest_turn, lowest_none, fields_in_range)
+
+-- ---- columns, filled from the front
+
+pub first_is : (variants : List ℕ) (t : ℕ) → first_settled variants t ≡ cond (eqb (get_or variants t 0) 0) 0 255
+unfolding first_settled
+first_is variants t = refl
+
+pub ruleset filling = (column-none, column-store, first_is)
 
 -- ---- the rounds
 

@@ -9,25 +9,25 @@ ghost use Rattle.finite.specs.TypeColumns.{FieldsInRange, InRange, column, field
 ghost use Rattle.defaults.specs.Settled.{all_settled, first_settled, is_settled, next_settled, settled_column};
 
 // Whether all field types of variant `w` are settled.
+#[tactic(auto, using(crate::proofs::SettledLaws::fields_settled))]
 fn variant_ready(arities: &[u8; 48], sorts: &[u8; 144], settled: &[u8; 6], w: usize) -> bool
     requires fields_in_range { FieldsInRange arities.now sorts.now }
     requires w_bound { w < 48 }
     ensures { result ≡ all (is_settled settled.now) (fields_at arities.now sorts.now w) }
 {
     let arity = arities[w] as usize;
-    let mut j: usize = 0;
-    while j < arity {
+    for j in 0..arity {
         let t = sorts[3 * w + j] as usize;
         if settled[t] == 255 {
             return false;
         }
-        j += 1;
     }
     true
 }
 
 // The default of type `t` after one more round: the one that it has, else its lowest variant that is ready by the
 // defaults of earlier rounds, else none.
+#[tactic(auto, using(crate::proofs::SettledLaws::turns))]
 fn next_default(
     many: usize,
     variants: &[u8; 6],
@@ -47,17 +47,16 @@ fn next_default(
     }
     let n = variants[t] as usize;
     let start = first[t] as usize;
-    let mut v: usize = 0;
-    while v < n {
+    for v in 0..n {
         if variant_ready(arities, sorts, settled, start + v) {
             return v as u8;
         }
-        v += 1;
     }
     255
 }
 
 // A round of defaults. It reads the last round's and writes new ones, since only defaults of earlier rounds count.
+#[tactic(auto, using(crate::proofs::SettledLaws::filling))]
 fn next_defaults(
     many: usize,
     variants: &[u8; 6],
@@ -70,10 +69,8 @@ fn next_defaults(
     ensures { result ≡ column (next_settled settled.now (types_in many variants.now first.now arities.now sorts.now)) many }
 {
     let mut next = [0u8; 6];
-    let mut t: usize = 0;
-    while t < many {
+    for t in 0..many {
         next[t] = next_default(many, variants, first, arities, sorts, settled, t);
-        t += 1;
     }
     next
 }
@@ -85,21 +82,21 @@ fn first_default(variants: u8) -> u8
     if variants == 0 { 0 } else { 255 }
 }
 
+#[tactic(auto, using(crate::proofs::SettledLaws::filling))]
 fn first_defaults(many: usize, variants: &[u8; 6]) -> [u8; 6]
     requires { many ≤ 6 }
     ensures { result ≡ column (first_settled variants.now) many }
 {
     let mut next = [0u8; 6];
-    let mut t: usize = 0;
-    while t < many {
+    for t in 0..many {
         next[t] = first_default(variants[t]);
-        t += 1;
     }
     next
 }
 
 // The variant of each type's default: 0 for a number type, 255 where there is none. Each round settles a type or none is
 // ever settled again, so as many rounds as types suffice.
+#[tactic(auto, using(crate::proofs::RoundLaws::rounds))]
 pub fn default_variants(
     many: usize,
     variants: &[u8; 6],
@@ -111,25 +108,17 @@ pub fn default_variants(
     ensures { result ≡ settled_column (defaults (types_in many variants.now first.now arities.now sorts.now)) }
 {
     let mut settled = first_defaults(many, variants);
-    let mut round: usize = 0;
-    while round < many {
+    for round in 0..many {
         settled = next_defaults(many, variants, first, arities, sorts, &settled);
-        round += 1;
     }
     settled
 }
 
 // Question 8: does every type have a default?
+#[tactic(auto, using(crate::proofs::SettledLaws::settled_all))]
 pub fn all_settled(many: usize, settled: &[u8; 6]) -> bool
     requires { many ≤ 6 }
     ensures { result ≡ all_settled settled.now many }
 {
-    let mut t: usize = 0;
-    while t < many {
-        if settled[t] == 255 {
-            return false;
-        }
-        t += 1;
-    }
-    true
+    !settled[..many].contains(&255)
 }

@@ -12,6 +12,7 @@ pub fn wide(x: u8) -> usize
 }
 
 // The number of the variant read by row `i` among the variants of all types.
+#[tactic(auto, unfolding(crate::specs::FieldTerms::place_at))]
 pub fn place(
     many: usize,
     kinds: &[u8; 24],
@@ -34,6 +35,7 @@ pub fn place(
 }
 
 // The term of the field at position `q`, for a read at `position` in row `row`.
+#[tactic(auto, unfolding(crate::specs::FieldTerms::field_term_at))]
 pub fn field_term(row: u8, position: u8, q: u8) -> u8
     requires row_bound { row < 24 }
     requires q_bound { q < 3 }
@@ -49,6 +51,7 @@ pub fn field_term(row: u8, position: u8, q: u8) -> u8
 }
 
 // The position of sibling `k`.
+#[tactic(auto, unfolding(crate::specs::FieldTerms::sibling_position))]
 pub fn sibling_position(position: usize, k: usize) -> usize
     requires { k < 2 }
     ensures { result ≡ sibling_position position k }

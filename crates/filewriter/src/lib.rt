@@ -26,8 +26,7 @@ fn put_numbers(list: &[i64], marks: &[u8; 640], out: &mut [u8]) -> End
     ensures { PutsTokens list.now marks.now out.old result out.new }
 {
     let mut at: usize = 0;
-    let mut i: usize = 0;
-    while i < list.len() {
+    for i in 0..list.len() {
         let x = list[i];
         let mark = marks[i];
         let n = written_number(x, mark);
@@ -36,7 +35,6 @@ fn put_numbers(list: &[i64], marks: &[u8; 640], out: &mut [u8]) -> End
             return end;
         }
         at = end.at;
-        i += 1;
     }
     End { fits: true, at }
 }

@@ -8,7 +8,7 @@ use native.Mathlib.Nat.{zero-add}
 use native.Mathlib.Numerals.{sub-one, add-one}
 use native.Mathlib.Omega.{arith}
 use lib.Dec.{eqb, ltb}
-use lib.ListN.{length, get_or, replicate}
+use lib.ListN.{length, get_or, replicate, set}
 use borrow.Author.Tests.{eq-eqb, ne_eqb, ltb-true, ltb-false, not-true}
 use Rattle.laws.specs.Lists.{all, from}
 use Rattle.laws.proofs.Bools.{and_both, and_left, and_right, by_test, either, or_cases, or_right}
@@ -20,8 +20,9 @@ use Rattle.finite.specs.TypeColumns.{column, fields_at, types_in}
 use Rattle.finite.specs.Finite.{finite_column, finite_type_from, finite_variant_from, flagged, flags, known_after}
 use Rattle.tables.specs.Layout.{pad}
 use Rattle.tables.proofs.Columns.{pad_get}
+use Rattle.tables.proofs.Held.{held-many}
 use Rattle.finite.proofs.FlatTypes.{fields-all, fields-length, number_is, variants-are}
-use Rattle.finite.proofs.Walks.{all_mapped, column-none, from_start}
+use Rattle.finite.proofs.Walks.{all_mapped, all_none, all_turn, column-next, column-none, from_start}
 
 module _ (many : ℕ) (variants first arities sorts known : List ℕ) where
   abbrev ts : Types
@@ -73,7 +74,21 @@ module _ (many : ℕ) (variants first arities sorts known : List ℕ) where
       let e : k ≡ suc k - 1 = omega arith in
       fields-all arities sorts w (λ t. finite_type_from known k ts t) ∙ ap (λ (m : ℕ). all (λ j. finite_type_from known m ts (get_or sorts (3 * w + j) 0)) (from (get_or arities w 0) 0)) e ∙ ap (all (field_test (suc k) w)) (sym (from_start (get_or arities w 0)))
 
+-- the tests of a type and of a variant: how they begin, each turn and the end
+pub ruleset turns = (type-known, type-no_rounds, type-number, type_step, variant-no_rounds, variant_step, all_turn, all_none)
+
 -- ---- the rounds
+
+pub flags-none : (p : ℕ → Bool) → flags p 0 ≡ replicate 6 0
+unfolding flags
+flags-none p = column-none _
+
+-- a turn: the next flag is stored
+pub flags_turn : (p : ℕ → Bool) (i x : ℕ) → i < 6 → x ≡ cond (p i) 1 0 → set (flags p i) i x ≡ flags p (i + 1)
+unfolding flags
+flags_turn p i x h e = ap (set (flags p i) i) e ∙ column-next _ i h
+
+pub ruleset flagging = (flags-none, flags_turn)
 
 flagged-one : (p : ℕ → Bool) (n t : ℕ) → t < n → flagged (flags p n) t ≡ p t
 unfolding flagged flags column
@@ -169,9 +184,9 @@ module _ (ts : Types) where
   unfolding known_after
   known-none = refl
 
-  pub known_next : (k n : ℕ) (known next : List ℕ) → length ts ≡ n → known ≡ known_after k ts → next ≡ flags (finite_type_from known 2 ts) n → next ≡ known_after (k + 1) ts
+  pub known_next : (k : ℕ) → known_after (k + 1) ts ≡ flags (finite_type_from (known_after k ts) 2 ts) (length ts)
   unfolding known_after
-  known_next k n known next l e q = q ∙ ap (λ (c : List ℕ). flags (finite_type_from c 2 ts) n) e ∙ ap (flags (finite_type_from (known_after k ts) 2 ts)) (sym l) ∙ ap (λ (m : ℕ). known_after m ts) (sym (add-one k))
+  known_next k = ap (λ (m : ℕ). known_after m ts) (add-one k)
 
   -- after as many times two rounds as there are types, the known types are the finite ones
   pub known-all : known_after (length ts) ts ≡ finite_column ts
@@ -184,5 +199,8 @@ module _ (ts : Types) where
           flags-same (finite_type_from (known_after k ts) 2 ts) (finite ts) (length ts)
           (λ t h. sym (flagged-one (finite_type_from (known_after k ts) 2 ts) (length ts) t h) ∙ ap (λ (m : ℕ). flagged (known_after m ts) t) (sym e) ∙ known_is t)
 
-  pub known_end : (k n : ℕ) (known : List ℕ) → length ts ≡ n → k ≤ n → n ≤ k → known ≡ known_after k ts → known ≡ finite_column ts
-  known_end k n known l h g e = let q : k ≡ length ts = omega arith in e ∙ ap (λ (m : ℕ). known_after m ts) q ∙ known-all
+  pub known_end : (k : ℕ) → k ≡ length ts → known_after k ts ≡ finite_column ts
+  known_end k e = ap (λ (m : ℕ). known_after m ts) e ∙ known-all
+
+-- each turn of the rounds, and the end
+pub ruleset rounds = (known-none, known_next, known_end, held-many)

@@ -1,8 +1,7 @@
 -- Walks over a range of numbers, a turn at a time, as a loop makes them: a test of all, a test of any, and a column that is
 -- filled from the front. Assumes nothing.
 use mathlib.Core.Path.{◌≡◌, refl, ap, sym, ◌∙◌}
-use borrow.Author.Tests.{not-true, not-false}
-use mathlib.Core.Bool.{not, cond, Bool, true, false, ◌&&◌, ◌||◌}
+use mathlib.Core.Bool.{Bool, true, false, ◌&&◌, ◌||◌}
 use mathlib.Core.List.{List, [], ◌∷◌, ◌++◌, map, Memᴰ}
 use Prim.Native.Nat.{ℕ, zero, suc, ◌+◌, ◌-◌, ◌≤◌, ◌<◌}
 use native.Mathlib.Nat.{zero-add}
@@ -27,37 +26,19 @@ from_end i n h = let s : n - i ≡ 0 = omega arith in rw s refl
 pub from_start : (n : ℕ) → from (n - 0) 0 ≡ from n 0
 from_start n = let s : n - 0 ≡ n = omega arith in ap (λ (k : ℕ). from k 0) s
 
--- what the test of the whole range says is what the test of the rest says; a turn ends it or goes on
-module _ (p : ℕ → Bool) (i n : ℕ) {whole : Bool} where
-  pub all-next : whole ≡ all p (from (n - i) i) → i < n → p i ≡ true → whole ≡ all p (from (n - (i + 1)) (i + 1))
-  all-next w h e = w ∙ ap (all p) (from_next i n h) ∙ ap (λ (b : Bool). b && all p (from (n - (i + 1)) (i + 1))) e
+-- a turn of a test, and its end
+module _ (p : ℕ → Bool) (i n : ℕ) where
+  pub all_turn : i < n → all p (from (n - i) i) ≡ (p i && all p (from (n - (i + 1)) (i + 1)))
+  all_turn h = ap (all p) (from_next i n h)
 
-  pub all_stop : whole ≡ all p (from (n - i) i) → i < n → p i ≡ false → false ≡ whole
-  all_stop w h e = sym (w ∙ ap (all p) (from_next i n h) ∙ ap (λ (b : Bool). b && all p (from (n - (i + 1)) (i + 1))) e)
+  pub all_none : n ≤ i → all p (from (n - i) i) ≡ true
+  all_none h = ap (all p) (from_end i n h)
 
-  pub all_end : whole ≡ all p (from (n - i) i) → n ≤ i → true ≡ whole
-  all_end w h = sym (w ∙ ap (all p) (from_end i n h))
+  pub any_turn : i < n → any p (from (n - i) i) ≡ (p i || any p (from (n - (i + 1)) (i + 1)))
+  any_turn h = ap (any p) (from_next i n h)
 
-  pub any_next : whole ≡ any p (from (n - i) i) → i < n → p i ≡ false → whole ≡ any p (from (n - (i + 1)) (i + 1))
-  any_next w h e = w ∙ ap (any p) (from_next i n h) ∙ ap (λ (b : Bool). b || any p (from (n - (i + 1)) (i + 1))) e
-
-  pub any_stop : whole ≡ any p (from (n - i) i) → i < n → p i ≡ true → true ≡ whole
-  any_stop w h e = sym (w ∙ ap (any p) (from_next i n h) ∙ ap (λ (b : Bool). b || any p (from (n - (i + 1)) (i + 1))) e)
-
-  pub any_end : whole ≡ any p (from (n - i) i) → n ≤ i → false ≡ whole
-  any_end w h = sym (w ∙ ap (any p) (from_end i n h))
-
--- what a function answered, by a branch on the negated answer
-module _ {answer : Bool} (b : Bool) (e : answer ≡ b) where
-  pub said_no : not answer ≡ true → b ≡ false
-  said_no h = sym e ∙ not-true _ h
-
-  pub said_yes : not answer ≡ false → b ≡ true
-  said_yes h = sym e ∙ not-false _ h
-
--- a flag is that of the test itself
-pub flag_of : {x : ℕ} {answer : Bool} (b : Bool) → x ≡ cond answer 1 0 → answer ≡ b → x ≡ cond b 1 0
-flag_of b e q = e ∙ ap (λ (c : Bool). cond c 1 0) q
+  pub any_none : n ≤ i → any p (from (n - i) i) ≡ false
+  any_none h = ap (any p) (from_end i n h)
 
 -- ---- tests of mapped lists
 
@@ -95,9 +76,6 @@ column-next f i h =
 -- a turn: the next number of a column is stored
 pub column-store : (f : ℕ → ℕ) (i : ℕ) (next : List ℕ) (x : ℕ) → i < 6 → next ≡ column f i → x ≡ f i → set next i x ≡ column f (i + 1)
 column-store f i next x h e q = ap (λ (l : List ℕ). set l i x) e ∙ ap (set (column f i) i) q ∙ column-next f i h
-
-pub column_end : (f : ℕ → ℕ) (i n : ℕ) (next : List ℕ) → i ≤ n → n ≤ i → next ≡ column f i → next ≡ column f n
-column_end f i n next h l e = let q : i ≡ n = omega arith in e ∙ ap (column f) q
 
 pub all_same : {A : Type 0} (p q : A → Bool) (xs : List A) → ((x : A) → Memᴰ x xs → p x ≡ q x) → all p xs ≡ all q xs
 all_same p q [] h = refl

@@ -1,7 +1,7 @@
 // The finite types, found from the columns of the table of types by rounds. `specs/Finite.antt` says what each function computes.
 #![tactic(auto)]
 
-ghost use Rattle.std.specs.Prelude.{◌≡◌, cond, ◌<◌};
+ghost use Rattle.std.specs.Prelude.{◌≡◌, ◌<◌};
 ghost use Rattle.finite.specs.TypeColumns.{InRange, fields_at, types_in};
 ghost use Rattle.finite.specs.Finite.{finite_column, finite_type_from, finite_variant_from, flags};
 
@@ -9,6 +9,7 @@ ghost use Rattle.finite.specs.Finite.{finite_column, finite_type_from, finite_va
 // already: it is finite at once, which keeps the recursion shallow. Plain recursion would take exponential time where
 // types are layered.
 #[cycle(type_finite_variant_finite)]
+#[tactic(auto, using(crate::proofs::FiniteLaws::turns))]
 fn type_finite(
     many: usize,
     variants: &[u8; 6],
@@ -35,8 +36,7 @@ fn type_finite(
         return false;
     }
     let start = first[t] as usize;
-    let mut v: usize = 0;
-    while v < n {
+    for v in 0..n {
         if !variant_finite(
             many,
             variants,
@@ -49,7 +49,6 @@ fn type_finite(
         ) {
             return false;
         }
-        v += 1;
     }
     true
 }
@@ -57,6 +56,7 @@ fn type_finite(
 // Whether variant `w`, counted through all types, is found to be finite in so many rounds: each field type is, in one
 // round less.
 #[cycle(type_finite_variant_finite)]
+#[tactic(auto, using(crate::proofs::FiniteLaws::turns))]
 fn variant_finite(
     many: usize,
     variants: &[u8; 6],
@@ -75,25 +75,17 @@ fn variant_finite(
     if rounds == 0 {
         return n == 0;
     }
-    let mut j: usize = 0;
-    while j < n {
+    for j in 0..n {
         let t = sorts[3 * w + j] as usize;
         if !type_finite(many, variants, first, arities, sorts, known, t, rounds - 1) {
             return false;
         }
-        j += 1;
     }
     true
 }
 
-// A test's outcome as a column holds it.
-fn flag(yes: bool) -> u8
-    ensures { result ≡ cond yes 1 0 }
-{
-    if yes { 1 } else { 0 }
-}
-
 // Two rounds more: the types that are known, and those whose field types are all known.
+#[tactic(auto, using(crate::proofs::FiniteLaws::flagging))]
 fn next_known(
     many: usize,
     variants: &[u8; 6],
@@ -106,16 +98,15 @@ fn next_known(
     ensures { result ≡ flags (finite_type_from known.now 2 (types_in many variants.now first.now arities.now sorts.now)) many }
 {
     let mut next = [0u8; 6];
-    let mut t: usize = 0;
-    while t < many {
-        next[t] = flag(type_finite(many, variants, first, arities, sorts, known, t, 2));
-        t += 1;
+    for t in 0..many {
+        next[t] = u8::from(type_finite(many, variants, first, arities, sorts, known, t, 2));
     }
     next
 }
 
 // The finite types: 1 for a finite type. Two rounds find a further finite type or there is none left, so as many times
 // two rounds as there are types find all.
+#[tactic(auto, using(crate::proofs::FiniteLaws::rounds))]
 pub fn finite_types(
     many: usize,
     variants: &[u8; 6],
@@ -127,10 +118,8 @@ pub fn finite_types(
     ensures { result ≡ finite_column (types_in many variants.now first.now arities.now sorts.now) }
 {
     let mut known = [0u8; 6];
-    let mut pass: usize = 0;
-    while pass < many {
+    for pass in 0..many {
         known = next_known(many, variants, first, arities, sorts, &known);
-        pass += 1;
     }
     known
 }

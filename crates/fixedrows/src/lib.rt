@@ -43,12 +43,10 @@ fn draw_rank(leaf: Leaf, at: &mut [u16; 96], rows: &mut [i32], many: usize, n: u
     let marks = leaf.marks;
     let ranks = leaf.ranks;
     let mut count = many;
-    let mut c: u8 = 0;
-    while c < 78 {
+    for c in 0..78 {
         if is_due(&marks, &ranks, at, n, c) {
             count = draw_class(leaf, at, rows, count, c);
         }
-        c += 1;
     }
     count
 }
@@ -62,10 +60,8 @@ pub fn fixed_rows(leaf: Leaf, at: &mut [u16; 96], rows: &mut [i32], many: usize,
     ensures { Advances leaf at.old rows.old many 0 0 at.new rows.new result (suc most) 0 }
 {
     let mut count = many;
-    let mut n: u8 = 0;
-    while n <= most {
+    for n in 0..most + 1 {
         count = draw_rank(leaf, at, rows, count, n);
-        n += 1;
     }
     count
 }

@@ -64,10 +64,8 @@ pub fn after(forms: Forms, steps: u8, t: u8) -> u8
 {
     let growth = forms.growth;
     let mut u = t;
-    let mut k: u8 = 0;
-    while k < steps {
+    for _ in 0..steps {
         u = growth.next[u as usize];
-        k += 1;
     }
     u
 }

@@ -125,7 +125,7 @@ fn variant_planned(
     Planned {
         row: d.row,
         many: d.many,
-        last: last,
+        last,
     }
 }
 
@@ -206,8 +206,7 @@ pub fn free_rows(leaf: Leaf, forms: Forms, at: &mut [u16; 96], rows: &mut [i32],
     let mut tops = [0u16; 6];
     let mut many: usize = 0;
     let mut last: u32 = 0;
-    let mut c: u8 = 0;
-    while c < 78 {
+    for c in 0..78 {
         if plans::is_free(
             &classes, &labels, &shapes, &sorts, &fieldless, &constants, &marks, c,
         ) {
@@ -217,7 +216,6 @@ pub fn free_rows(leaf: Leaf, forms: Forms, at: &mut [u16; 96], rows: &mut [i32],
             many = d.many;
             last = d.last;
         }
-        c += 1;
     }
     many
 }

@@ -16,15 +16,14 @@ fn clear(classes: &mut [u8; 96], labels: &mut [u16; 96])
     ensures labels_after { state classes.new labels.new ≡ first 96 }
     ensures held { Held classes.new }
 {
-    let mut x: usize = 0;
-    while x < 96 {
+    for x in 0..96 {
         classes[x] = x as u8;
-        labels[x] = 65535;
-        x += 1;
     }
+    *labels = [65535; 96];
 }
 
 // All that is given, whatever the two arrays held before.
+#[tactic(auto, using(facts::proofs::Adding::adds_all), unfolding(crate::specs::Given::given_by))]
 pub fn begin(
     classes: &mut [u8; 96],
     labels: &mut [u16; 96],

@@ -19,7 +19,7 @@ use Rattle.forms.specs.Forms.{FormsFit, types_in}
 use Rattle.drawnrows.specs.Drawing.{Drew, Given, Parted, Room, Store, Under, Under.here, parts_over}
 use Rattle.drawnrows.proofs.DrawnLaws.{drew-after, drew_nothing, drew-room, drew-under, under_trans}
 use Rattle.drawnrows.proofs.FillLaws.{fill_typed}
-use Rattle.forms.proofs.FormLaws.{by, fields-three, growing-read, period-read, sort-inside, variant-small}
+use Rattle.forms.proofs.FormLaws.{fields-three, growing-read, period-read, sort-inside, variant-small}
 use Rattle.drawnrows.proofs.RowLaws.{drew-given, drew-made, none-before-given}
 use Rattle.defaultrows.proofs.PartLaws.{parted_room}
 

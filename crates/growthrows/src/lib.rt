@@ -104,12 +104,10 @@ pub fn rounds(
     let period = growth.period[t as usize];
     let mut at = row;
     let mut count = many;
-    let mut k: usize = 0;
-    while k < turns {
+    for _ in 0..turns {
         let d = grow(forms, rows, drawn, count, period, t, at);
         at = d.row;
         count = d.many;
-        k += 1;
     }
     Drawn {
         row: at,

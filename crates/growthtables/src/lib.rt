@@ -47,12 +47,12 @@ pub fn growth_of(table: TypeTable) -> Growth
     let distance = cycles.distance;
     let period = cycles.period;
     Growth {
-        chosen: chosen,
-        growing: growing,
-        next: next,
-        steps: steps,
-        root: root,
-        distance: distance,
-        period: period,
+        chosen,
+        growing,
+        next,
+        steps,
+        root,
+        distance,
+        period,
     }
 }

@@ -1,19 +1,17 @@
 -- Two active shapes of one variant have the same parts exactly if their first keys are equal, and equal terms exactly if their second
 -- ones are. So where both are equal or none is, all that the two say of each other holds. Assumes nothing.
 use mathlib.Core.Path.{◌≡◌, refl, ap, sym, subst, ◌∙◌}
-use mathlib.Core.Bool.{Bool, beq, true, false, not, false≢true, ◌&&◌, ◌||◌}
+use mathlib.Core.Bool.{Bool, true, false, false≢true, ◌&&◌}
 use mathlib.Core.List.{List, Memᴰ}
 use mathlib.Core.Logic.{inl, inr}
 use Prim.Native.Nat.{ℕ, zero, suc, ◌+◌, ◌*◌, ◌%◌, ◌≤◌, ◌<◌}
 use native.Mathlib.Omega.{arith}
 use lib.Dec.{eqb, ltb}
-use lib.ListN.{get_or, length, length-replicate, length-set, replicate, set}
-use lib.Seq.{get_or-set_same, get_or-set_other}
-use borrow.Author.Count.{below_more}
-use borrow.Author.Tests.{eq-eqb, eqb-false, eqb-true, ltb-false, ltb-true}
+use lib.ListN.{get_or}
+use borrow.Author.Tests.{eq-eqb, eqb-true, ltb-false, ltb-true}
 use Rattle.laws.specs.All.{All, All.none}
 use Rattle.laws.specs.Lists.{from}
-use Rattle.laws.proofs.Bools.{and_left, and_right, by_test, or_false}
+use Rattle.laws.proofs.Bools.{and_left, and_right, by_test}
 use Rattle.laws.proofs.Lists.{all_append, all-concat_map, all_true_inv, from_bounds, mem_concat_map, mem_concat_map_inv, mem_from}
 use Rattle.guard.specs.Closure.{Fact, State, class_of, holds, same_class}
 use Rattle.passes.specs.Pass.{Due, Pass}
@@ -22,49 +20,7 @@ use Rattle.arrays.specs.Slots.{ShapesFit, active, kind_at, many_at, owner_at, pa
 use Rattle.arrays.proofs.DueLaws.{quiet_one}
 use Rattle.congruence.specs.Due.{alike, owners_due, part_due, parts_due, same_owners, same_parts, shape_due, shapes_meet}
 use Rattle.congruence.proofs.Tests.{inactive, unlike}
-use Rattle.keys.specs.Keys.{Agreed, Keyed, Quiet, kind_byte, owner_key, parts_key}
-
--- ---- keys, slot by slot
-
-pub parts-number : {x a b c y d e f : ℕ} → x ≡ y → a ≡ d → b ≡ e → c ≡ f → 16777216 * (x % 256) + 65536 * a + 256 * b + c ≡ 16777216 * (y % 256) + 65536 * d + 256 * e + f
-parts-number ex ea eb ec = rw (ex, ea, eb, ec) refl
-
-pub owner-number : {x a y b : ℕ} → x ≡ y → a ≡ b → 256 * (x % 256) + a + 1 ≡ 256 * (y % 256) + b + 1
-owner-number ex ea = rw (ex, ea) refl
-
-module _ (shapes : List ℕ) (s : State) where
-  pub no_keys : Keyed shapes s 0 (replicate 30 0) (replicate 30 0)
-  no_keys =
-      record {
-        long_parts = length-replicate {A = ℕ} 30 0;
-        long_owners = length-replicate {A = ℕ} 30 0;
-        parts_are = λ k h. absurd (omega arith);
-        owners_are = λ k h. absurd (omega arith);
-      }
-
-  module _ (n : ℕ) (parts owners : List ℕ) (w : Keyed shapes s n parts owners) where
-    -- the next slot is not active
-    pub no_key : active shapes s n ≡ false → Keyed shapes s (n + 1) parts owners
-    no_key e =
-        record { long_parts = w.long_parts; long_owners = w.long_owners; parts_are = λ k h a. w.parts_are k (before k h a) a; owners_are = λ k h a. w.owners_are k (before k h a) a }
-      where
-        before : (k : ℕ) → k < n + 1 → active shapes s k ≡ true → k < n
-        before k h a = by_test (ltb k n) (λ t. ltb-true _ _ t) (λ t. let z : n ≡ k = omega (arith, ltb-false k n t) in absurd (false≢true (sym e ∙ ap (active shapes s) z ∙ a)))
-
-    pub next_key : n < 30 → (a b : ℕ) → a ≡ parts_key shapes s n → b ≡ owner_key shapes s n → Keyed shapes s (n + 1) (set parts n a) (set owners n b)
-    next_key l a b ea eb =
-        record {
-          long_parts = length-set parts n a ∙ w.long_parts;
-          long_owners = length-set owners n b ∙ w.long_owners;
-          parts_are = λ k h e. stored parts a (parts_key shapes s) w.long_parts ea (λ i h. w.parts_are i h) k h e;
-          owners_are = λ k h e. stored owners b (owner_key shapes s) w.long_owners eb (λ i h. w.owners_are i h) k h e;
-        }
-      where
-        stored : (xs : List ℕ) (v : ℕ) (f : ℕ → ℕ) → length xs ≡ 30 → v ≡ f n → ((k : ℕ) → k < n → active shapes s k ≡ true → get_or xs k 0 ≡ f k)
-            → (k : ℕ) → k < n + 1 → active shapes s k ≡ true → get_or (set xs n v) k 0 ≡ f k
-        stored xs v f long e old k h a =
-            by_test (eqb k n) (λ t. subst (λ (j : ℕ). get_or (set xs n v) j 0 ≡ f j) (sym (eqb-true k n t)) (get_or-set_same xs n v 0 (omega (arith, long)) ∙ e))
-            (λ t. get_or-set_other xs n k v 0 (eqb-false k n t) ∙ old k (omega (arith, eqb-false k n t)) a)
+use Rattle.keys.specs.Keys.{Keyed, Quiet, kind_byte, owner_key, parts_key}
 
 -- ---- what the keys tell
 
@@ -141,20 +97,6 @@ module _ (shapes : List ℕ) (fit : ShapesFit shapes) (s : State) (inside : (x :
       quiet_one (alike shapes s k i && same_owners shapes s k i) (part_at shapes i p) (part_at shapes k p) s
       (λ t. key_same (eqb-true _ _ (q ∙ eq-eqb _ _ (owner-same (eqb-true _ _ (and_right (alike shapes s k i) _ t))))) p (omega (arith, (from_bounds (many_at shapes k) 0 p m).1)))))
 
--- ---- the comparison with all before
-
-pub agreed-next : (parts owners : List ℕ) (k i : ℕ) (any : Bool) → (any ≡ false → Agreed parts owners k i)
-    → (any || not (beq (eqb (get_or parts i 0) (get_or parts k 0)) (eqb (get_or owners i 0) (get_or owners k 0)))) ≡ false → Agreed parts owners k (i + 1)
-agreed-next parts owners k i any h e =
-    let (earlier, here) = or_false any (not (beq (eqb (get_or parts i 0) (get_or parts k 0)) (eqb (get_or owners i 0) (get_or owners k 0)))) e in
-    below_more (λ j. eqb (get_or parts j 0) (get_or parts k 0) ≡ eqb (get_or owners j 0) (get_or owners k 0)) i (h earlier) (go (eqb (get_or parts i 0) (get_or parts k 0)) (eqb (get_or owners i 0) (get_or owners k 0)) here)
-  where
-    go : (a b : Bool) → not (beq a b) ≡ false → a ≡ b
-    go true true q = refl
-    go true false q = absurd (false≢true (sym q))
-    go false true q = absurd (false≢true (sym q))
-    go false false q = refl
-
 -- a shape and those before it
 module _ (shapes : List ℕ) (fit : ShapesFit shapes) (s : State) (inside : (x : ℕ) → class_of s x < 96) (parts owners : List ℕ) (w : Keyed shapes s 30 parts owners) (k : ℕ) (hk : k < 30) where
   quiet-shape : Quiet parts owners k → All (λ f. holds s f ≡ true) (shape_due shapes s k)
@@ -187,7 +129,3 @@ module _ (due : ℕ → Due) where
 
   pub unchanged_at : (n : ℕ) {s s' s'' : State} (r : Bool) → Pass (up_to due n) s s' false → Pass (due n) s' s'' r → r ≡ false → Pass (up_to due (n + 1)) s s'' false
   unchanged_at n r p q e = one_more due n false r false p q (inr (e, refl))
-
-  -- keys made at the beginning are those of the state as long as nothing has changed
-  pub still_keyed : (shapes : List ℕ) (n : ℕ) {s s' : State} {parts owners : List ℕ} → Pass (up_to due n) s s' false → Keyed shapes s 30 parts owners → Keyed shapes s' 30 parts owners
-  still_keyed shapes n {parts = parts} {owners = owners} p w = subst (λ (x : State). Keyed shapes x 30 parts owners) (sym (p.quiet refl).0) w

@@ -67,10 +67,8 @@ fn key_shapes(
     requires keyed { Keyed shapes.now (state classes.now labels.now) 0 parts.old owners.old }
     ensures { Keyed shapes.now (state classes.now labels.now) 30 parts.new owners.new }
 {
-    let mut k: usize = 0;
-    while k < 30 {
+    for k in 0..30 {
         key_shape(classes, labels, shapes, parts, owners, k);
-        k += 1;
     }
 }
 
@@ -86,10 +84,8 @@ fn differs(parts: &[u32; 30], owners: &[u32; 30], k: usize) -> bool
     }
     let part = parts[k];
     let mut any = false;
-    let mut i: usize = 0;
-    while i < k {
-        any = any | ((parts[i] == part) != (owners[i] == owner));
-        i += 1;
+    for i in 0..k {
+        any |= (parts[i] == part) != (owners[i] == owner);
     }
     any
 }
@@ -130,12 +126,10 @@ fn pass_all_keyed(
     ensures pass { Pass (shapes_due shapes.now) (state classes.old labels.old) (state classes.new labels.new) result }
     ensures held_2 { Held classes.new }
 {
-    let mut k: usize = 0;
-    while k < 30 {
+    for k in 0..30 {
         if pass_keyed(classes, labels, shapes, parts, owners, k) {
             return true;
         }
-        k += 1;
     }
     false
 }

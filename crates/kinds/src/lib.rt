@@ -26,12 +26,10 @@ pub fn shape_of(classes: &[u8; 96], labels: &[u16; 96], shapes: &[u16; 256], c: 
     requires shapes_fit { ShapesFit shapes.now }
     ensures { result ≡ shape_of shapes.now (state classes.now labels.now) c }
 {
-    let mut k: usize = 0;
-    while k < 30 {
+    for k in 0..30 {
         if is_shape(classes, labels, shapes, c, k) {
             return k;
         }
-        k += 1;
     }
     30
 }
@@ -52,12 +50,10 @@ fn is_fixed(classes: &[u8; 96], constants: &[u8; 32], c: u8, k: usize) -> bool
 pub fn constant_of(classes: &[u8; 96], constants: &[u8; 32], c: u8) -> usize
     ensures { result ≡ constant_of constants.now classes.now c }
 {
-    let mut k: usize = 0;
-    while k < 30 {
+    for k in 0..30 {
         if is_fixed(classes, constants, c, k) {
             return k;
         }
-        k += 1;
     }
     30
 }
@@ -99,12 +95,10 @@ pub fn single_of(
     requires sorts_fit { SortsFit sorts.now }
     ensures { result ≡ single_of sorts.now fieldless.now (state classes.now labels.now) c }
 {
-    let mut x: u8 = 0;
-    while x < 78 {
+    for x in 0..78 {
         if is_single(classes, labels, sorts, fieldless, c, x) {
             return x;
         }
-        x += 1;
     }
     78
 }

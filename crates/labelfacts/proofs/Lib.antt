@@ -1,2 +1,1 @@
-pub mod LabelTests
 pub mod LabelLaws

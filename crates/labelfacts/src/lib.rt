@@ -9,6 +9,7 @@ ghost use Rattle.arrays.specs.Slots.{ShapesFit, SortsFit, kind_at};
 ghost use Rattle.labelfacts.specs.Labels.{all_variants_at, all_variants_by, one_variant_at, one_variant_by, variant_at};
 
 // A term has at first all variants of its type.
+#[tactic(auto, unfolding(crate::specs::Labels::all_variants_at))]
 fn label_term(
     classes: &[u8; 96],
     labels: &mut [u16; 96],
@@ -27,15 +28,14 @@ fn label_term(
     }
 }
 
+#[tactic(auto, using(facts::proofs::Adding::next_slot), unfolding(crate::specs::Labels::all_variants_by))]
 pub fn label_terms(classes: &[u8; 96], labels: &mut [u16; 96], sorts: &[u8; 96], full: &[u16; 8])
     requires held { Held classes.now }
     requires sorts_fit { SortsFit sorts.now }
     ensures { state classes.now labels.new ≡ foldl add (state classes.now labels.old) (all_variants_by sorts.now full.now) }
 {
-    let mut x: usize = 0;
-    while x < 78 {
+    for x in 0..78 {
         label_term(classes, labels, sorts, full, x);
-        x += 1;
     }
 }
 
@@ -48,6 +48,7 @@ fn variant_label(shapes: &[u16; 256], k: usize) -> u16
 }
 
 // A built row or a default is of its variant. A field read has the others as its mask, and may be of any.
+#[tactic(auto, unfolding(crate::specs::Labels::one_variant_at))]
 fn label_build(classes: &[u8; 96], labels: &mut [u16; 96], shapes: &[u16; 256], k: usize)
     requires k_bound { k < 30 }
     requires held { Held classes.now }
@@ -66,14 +67,13 @@ fn label_build(classes: &[u8; 96], labels: &mut [u16; 96], shapes: &[u16; 256], 
     classes::restrict(classes, labels, owner, variant_label(shapes, k));
 }
 
+#[tactic(auto, using(facts::proofs::Adding::next_slot), unfolding(crate::specs::Labels::one_variant_by))]
 pub fn label_builds(classes: &[u8; 96], labels: &mut [u16; 96], shapes: &[u16; 256])
     requires held { Held classes.now }
     requires shapes_fit { ShapesFit shapes.now }
     ensures { state classes.now labels.new ≡ foldl add (state classes.now labels.old) (one_variant_by shapes.now) }
 {
-    let mut slot: usize = 0;
-    while slot < 30 {
+    for slot in 0..30 {
         label_build(classes, labels, shapes, slot);
-        slot += 1;
     }
 }

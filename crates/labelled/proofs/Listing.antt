@@ -1,24 +1,23 @@
 -- A list of the numbers that pass a test, made number by number. Assumes nothing.
 use mathlib.Core.Path.{◌≡◌, refl, ap, sym, ◌∙◌}
-use mathlib.Core.Bool.{Bool, true, false, not, ◌||◌, false≢true}
+use mathlib.Core.Bool.{Bool, true, false, false≢true}
 use mathlib.Core.List.{List}
-use mathlib.Core.Logic.{◌⊎◌, inl, inr}
 use Prim.Native.Nat.{ℕ, ◌+◌, ◌<◌}
 use native.Mathlib.Omega.{arith}
 use lib.Dec.{eqb, ltb}
-use lib.ListN.{get_or-eq_default, get_or, get_or-replicate, length, length-replicate, length-set, replicate, set}
+use lib.ListN.{get_or-eq_default, get_or, get_or-replicate, length, length-replicate, replicate, set}
 use lib.Seq.{get_or-set_other, get_or-set_same}
-use borrow.Author.Tests.{eq-eqb, eqb-false, eqb-true, ltb-false, ltb-true, ne_eqb}
-use Rattle.laws.proofs.Bools.{by_test, or_left}
-use Rattle.arrays.specs.Slots.{sort_at}
-use Rattle.labelled.specs.Covers.{Lists, has_label, has_mask}
+use borrow.Author.Tests.{eqb-false, eqb-true, ltb-false, ltb-true}
+use Rattle.laws.proofs.Bools.{by_test}
+use Rattle.arrays.specs.Slots.{SortsFit, sort_at}
+use Rattle.labelled.specs.Covers.{Lists}
 
 zeros : (n i : ℕ) → get_or {A = ℕ} (replicate n 0) i 0 ≡ 0
 zeros n i = by_test (ltb i n) (λ b. get_or-replicate {A = ℕ} n i 0 0 (ltb-true i n b)) (λ b. get_or-eq_default (replicate {A = ℕ} n 0) 0 (omega (arith, ltb-false i n b, length-replicate {A = ℕ} n 0)))
 
 module _ (p : ℕ → Bool) where
-  pub lists-none : (room : ℕ) → Lists p 0 (replicate room 0) 0
-  lists-none room =
+  pub lists_none : (room : ℕ) → Lists p 0 (replicate room 0) 0
+  lists_none room =
       record {
         covers = record { few = omega arith; below = λ i h. absurd (omega arith); rising = λ i j l h. absurd (omega arith); every = λ x h e. absurd (omega arith) };
         passes = λ i h. absurd (omega arith);
@@ -73,19 +72,7 @@ module _ (p : ℕ → Bool) where
             let (i, n, f) = l.covers.every y (omega (arith, eqb-false y x q)) t in
             (i, omega arith, there i (λ r. omega (arith, r, n)) ∙ f))
 
-    -- one or the other, as a test tells
-    pub lists-next : (b : Bool) → b ≡ p x → k < length list → (list' : List ℕ) (k' : ℕ) → ((b ≡ true) × (list' ≡ set list k x) × (k' ≡ k + 1)) ⊎ ((b ≡ false) × (list' ≡ list) × (k' ≡ k))
-        → (length list' ≡ length list) × Lists p (x + 1) list' k'
-    lists-next b e room list' k' (inl (t, el, ek)) = rw (el, ek) (length-set list k x, lists_with room (sym e ∙ t))
-    lists-next b e room list' k' (inr (t, el, ek)) = rw (el, ek) (refl, lists_without (sym e ∙ t))
+-- ---- a term's type is there
 
--- ---- a term has a label
-
-module _ (sorts full fieldless : List ℕ) (x : ℕ) where
-  pub label_full : ¬ (get_or full (sort_at sorts x) 0 ≡ 0) → true ≡ has_label sorts full fieldless x
-  unfolding has_label has_mask
-  label_full n = sym (or_left _ _ (ap not (ne_eqb _ _ n)))
-
-  pub label_fieldless : get_or full (sort_at sorts x) 0 ≡ 0 → not (eqb (get_or fieldless (sort_at sorts x) 0) 0) ≡ has_label sorts full fieldless x
-  unfolding has_label has_mask
-  label_fieldless e = ap (λ (b : Bool). not b || not (eqb (get_or fieldless (sort_at sorts x) 0) 0)) (sym (eq-eqb _ _ e))
+pub sort_small : (sorts : List ℕ) (x : ℕ) → SortsFit sorts → sort_at sorts x < 7
+sort_small sorts x fit = fit.sort x

@@ -13,16 +13,14 @@ pub struct Labelled {
 }
 
 // Whether a term's type has variants.
+#[tactic(auto, using(crate::proofs::Listing::sort_small), unfolding(crate::specs::Covers::has_label, crate::specs::Covers::has_mask))]
 fn has_label(sorts: &[u8; 96], full: &[u16; 8], fieldless: &[u16; 8], x: usize) -> bool
     requires x_bound { x < 96 }
     requires sorts_fit { SortsFit sorts.now }
     ensures { result ≡ has_label sorts.now full.now fieldless.now x }
 {
     let sort = sorts[x] as usize;
-    if full[sort] != 0 {
-        return true;
-    }
-    fieldless[sort] != 0
+    full[sort] != 0 || fieldless[sort] != 0
 }
 
 // The terms below 78 that have a label.
@@ -32,16 +30,11 @@ pub fn labelled_terms(sorts: &[u8; 96], full: &[u16; 8], fieldless: &[u16; 8]) -
 {
     let mut terms = [0u8; 96];
     let mut many: usize = 0;
-    let mut x: usize = 0;
-    while x < 78 {
+    for x in 0..78 {
         if has_label(sorts, full, fieldless, x) {
             terms[many] = x as u8;
             many += 1;
         }
-        x += 1;
     }
-    Labelled {
-        terms: terms,
-        many: many,
-    }
+    Labelled { terms, many }
 }

@@ -7,7 +7,7 @@ use native.Mathlib.Omega.{arith}
 use native.Mathlib.Numerals.{add-one}
 use lib.Dec.{leb, ltb}
 use lib.ListN.{length, get_or, drop, take, drop_of_length-le, length-drop}
-use lib.Seq.{append_snoc, drop-cons, take-suc}
+use lib.Seq.{append_snoc, drop-cons, get_or-drop, take-suc}
 use borrow.Author.Tests.{le-leb, le-ltb, leb-false, leb-true, lt-ltb, ltb-false, ltb-true}
 use Rattle.laws.proofs.Bools.{and_both, by_test}
 use Rattle.guard.specs.Number.{Parsed, Parsed.accepted, Parsed.refused, Parser, Width, ◌>>=◌, ◌>>◌, and_then, ask, groups, return, unsigned, unsigned_of, value_of_groups, well_formed, width32}
@@ -113,6 +113,9 @@ module _ (most : ℕ) (bs : List ℕ) where
                   ∙ ap (λ (l : List ℕ). behind l (groups (most - suc count) (drop (suc count) bs))) (sym (take-suc bs count 0 there))
                   ∙ ap (λ (k : ℕ). behind (take k bs) (groups (most - k) (drop k bs))) (sym (add-one count));
             }
+
+-- the steps of the loop, with the byte read at the cursor
+pub ruleset counting_steps = (counted_end, counted-last, counting_more, length-drop, get_or-drop)
 
 -- there is always a count
 pub counts : (most : ℕ) (bs : List ℕ) → 0 < most → (n : ℕ) × Counted most bs n

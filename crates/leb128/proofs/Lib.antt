@@ -1,3 +1,2 @@
 pub mod Count
 pub mod Form
-pub mod Value

@@ -8,23 +8,22 @@ ghost use Rattle.guard.specs.Number.{value_of_groups, well_formed, width32};
 ghost use Rattle.leb128.specs.Count.{Counted};
 
 // How many bytes the number at `at` has: up to and with the first without bit 80, and at most `most`. 0 if the bytes end before.
+#[tactic(auto, using(crate::proofs::Count::counting_steps))]
 pub fn byte_count(bytes: &[u8], at: usize, most: usize) -> usize
     requires { (0 < most) × (most ≤ 10) }
     ensures { Counted most (drop at bytes.now) result }
 {
-    let mut count: usize = 0;
-    while count < most {
-        let next = at + count;
+    for i in 0..most {
+        let next = at + i;
         if bytes.len() <= next {
             return 0;
         }
-        count += 1;
         if bytes[next] < 128 {
-            return count;
+            return i + 1;
         }
     }
     // A byte with bit 80 in the last place is the end too.
-    count
+    most
 }
 
 // The low-order seven bits of byte `i`.
@@ -63,6 +62,7 @@ pub fn value_of(number: &[u8]) -> u64
 
 // Whether the bytes are in the form above. A fifth byte may have bit 80, and five groups have 35 bits; a last byte of 00 adds
 // nothing, so after other bytes the number does not have the fewest.
+#[tactic(auto, using(crate::proofs::Form::last_is))]
 pub fn well_formed(number: &[u8], value: u64) -> bool
     requires { (0 < length number.now) × (value ≡ value_of_groups number.now) }
     ensures { result ≡ well_formed width32 number.now }

@@ -1,23 +1,22 @@
 -- Where all shapes are in order and no class is at the bottom, the levels are heights upside down, so ranks fall. Where ranks
 -- fall, no class sinks further than its rank, so none gets to the bottom. Assumes nothing.
-use mathlib.Core.Path.{◌≡◌, refl, ap, sym, subst, ◌∙◌}
+use mathlib.Core.Path.{◌≡◌, refl, ap, ap₂, sym, subst, ◌∙◌}
 use mathlib.Core.Bool.{Bool, true, false, not, false≢true, ◌||◌}
-use mathlib.Core.List.{List}
+use mathlib.Core.List.{List, [], ◌∷◌}
 use mathlib.Core.Logic.{◌⊎◌, inl, inr}
-use Prim.Native.Nat.{ℕ, zero, suc, ◌+◌, ◌-◌, ◌≤◌, ◌<◌}
-use native.Mathlib.Nat.{zero-add}
-use native.Mathlib.Numerals.{add-one}
+use Prim.Native.Nat.{ℕ, zero, suc, ◌+◌, ◌-◌, ◌≤◌, ◌<◌, min}
+use native.Mathlib.Nat.{add-zero, zero-add}
 use native.Mathlib.Omega.{arith}
 use lib.Dec.{eqb, ltb}
-use lib.ListN.{get_or, get_or-replicate, replicate, set}
-use borrow.Author.Tests.{eq-eqb, eqb-false, eqb-true, ltb-false, ltb-true, ne_eqb}
+use lib.ListN.{get_or, get_or-replicate, length, replicate, set}
+use Rattle.std.specs.List.{list_any}
+use borrow.Author.Tests.{eqb-false, eqb-true, ltb-false, ltb-true}
 use Rattle.laws.specs.Lists.{any, from, sum}
-use Rattle.laws.proofs.Bools.{by_test, either, or_right}
+use Rattle.laws.proofs.Bools.{by_test, either}
 use Rattle.laws.proofs.Lists.{any_none, any_some, from_bounds, mem_from}
 use Rattle.laws.proofs.Stores.{set_cases, set_ind, sum-set_le, sum-set_lt}
 use Rattle.guard.specs.Closure.{State}
 use Rattle.classes.specs.Held.{Held}
-use Rattle.loops.proofs.Loops.{any_snoc, or_none_lem}
 use Rattle.arrays.specs.Slots.{active, many_at, owner_at, part_at}
 use Rattle.ranks.specs.Ranks.{own_class, part_class, ranking_of}
 use Rattle.ranks.proofs.RankLaws.{heights_rank, ranks_fall, ranks-low}
@@ -26,54 +25,40 @@ use Rattle.levels.specs.Levels.{InOrder, LastInOrder, LowestPart, Sinks, Sinks.d
 -- ---- the lowest of the parts
 
 module _ (shapes classes levels : List ℕ) (k : ℕ) where
-  pub first_part : (low x : ℕ) → low ≡ get_or levels (get_or classes x 0) 0 → x ≡ part_at shapes k 0 → LowestPart shapes classes levels k 1 low
-  first_part low x e q =
-      record {
-        each = λ p h. let z : 0 ≡ p = omega arith in subst (λ (j : ℕ). low ≤ part_level shapes classes levels k j) z (omega (arith, here));
-        some = (0, omega arith, sym here);
-      }
-    where
-      here : low ≡ part_level shapes classes levels k 0
-      here = e ∙ ap (λ (y : ℕ). get_or levels (get_or classes y 0) 0) q
-
   module _ (p low level x next : ℕ) (w : LowestPart shapes classes levels k p low) (e : level ≡ get_or levels (get_or classes x 0) 0) (q : x ≡ part_at shapes k p) where
     here : level ≡ part_level shapes classes levels k p
     here = e ∙ ap (λ (y : ℕ). get_or levels (get_or classes y 0) 0) q
 
-    pub next-part : ((level < low) × (next ≡ level)) ⊎ ((low ≤ level) × (next ≡ low)) → LowestPart shapes classes levels k (p + 1) next
-    next-part (inl (l, z)) =
-        record {
-          each = λ j h. by_test (ltb j p) (λ t. omega (arith, w.each j (ltb-true _ _ t)))
-              (λ t. let y : p ≡ j = omega (arith, ltb-false j p t) in subst (λ (i : ℕ). next ≤ part_level shapes classes levels k i) y (omega (arith, here)));
-          some = (p, omega arith, sym here ∙ sym z);
-        }
-    next-part (inr (l, z)) =
-        let (j, h, y) = w.some in
-        record {
-          each = λ j h. by_test (ltb j p) (λ t. omega (arith, w.each j (ltb-true _ _ t)))
-              (λ t. let y : p ≡ j = omega (arith, ltb-false j p t) in subst (λ (i : ℕ). next ≤ part_level shapes classes levels k i) y (omega (arith, here)));
-          some = (j, omega arith, y ∙ sym z);
-        }
+    pub next-part : next ≡ min low level → LowestPart shapes classes levels k (p + 1) next
+    next-part z = record { each = each; some = by_test (ltb level low) (λ t. new (ltb-true level low t)) (λ t. old (ltb-false level low t) w.some) }
+      where
+        each : (j : ℕ) → j < p + 1 → next ≤ part_level shapes classes levels k j
+        each j h = by_test (ltb j p) (λ t. omega (arith, z, w.each j (ltb-true _ _ t)))
+            (λ t. let y : p ≡ j = omega (arith, ltb-false j p t) in subst (λ (i : ℕ). next ≤ part_level shapes classes levels k i) y (omega (arith, z, here)))
+
+        new : level < low → (j : ℕ) × (j < p + 1) × (part_level shapes classes levels k j ≡ next)
+        new l = (p, omega arith, omega (arith, z, here))
+
+        old : low ≤ level → (j : ℕ) × (j < p) × (part_level shapes classes levels k j ≡ low) → (j : ℕ) × (j < p + 1) × (part_level shapes classes levels k j ≡ next)
+        old l (j, h, y) = (j, omega arith, omega (arith, z, y))
 
 -- ---- a class at the bottom
+
+-- a test of the elements, and of their places
+any_places : (p q : ℕ → Bool) (xs : List ℕ) (a : ℕ) → ((j : ℕ) → j < length xs → q (a + j) ≡ p (get_or xs j 0)) → any q (from (length xs) a) ≡ list_any p xs
+any_places p q [] a h = refl
+any_places p q (x ∷ xs) a h =
+    ap₂ (λ (b c : Bool). b || c) (ap q (sym (add-zero a)) ∙ h 0 (omega arith))
+    (any_places p q xs (suc a) (λ j l. let e : suc a + j ≡ a + suc j = omega arith in ap q e ∙ h (suc j) (omega arith)))
 
 module _ (levels : List ℕ) where
   abbrev zero_at : ℕ → Bool
   zero_at c = eqb (get_or levels c 0) 0
 
-  pub none-bottomed : false ≡ bottomed levels 0
+  -- a search for a 0 finds it
+  pub contains_bottomed : length levels ≡ 96 → list_any (λ y. eqb y 0) levels ≡ bottomed levels 96
   unfolding bottomed
-  none-bottomed = refl
-
-  pub bottomed-next : (n : ℕ) (a b : Bool) → a ≡ bottomed levels n → ((get_or levels n 0 ≡ 0) × (b ≡ true)) ⊎ ((¬ (get_or levels n 0 ≡ 0)) × (b ≡ a)) → b ≡ bottomed levels (n + 1)
-  unfolding bottomed
-  bottomed-next n a b e w = either yes no w ∙ sym (any_snoc zero_at n 0 ∙ ap (λ (j : ℕ). any zero_at (from n 0) || zero_at j) (zero-add n)) ∙ ap (λ (j : ℕ). any zero_at (from j 0)) (sym (add-one n))
-    where
-      yes : (get_or levels n 0 ≡ 0) × (b ≡ true) → b ≡ (any zero_at (from n 0) || zero_at n)
-      yes (z, q) = q ∙ sym (or_right (any zero_at (from n 0)) (zero_at n) (eq-eqb _ _ z))
-
-      no : (¬ (get_or levels n 0 ≡ 0)) × (b ≡ a) → b ≡ (any zero_at (from n 0) || zero_at n)
-      no (z, q) = q ∙ e ∙ sym (ap (λ (d : Bool). any zero_at (from n 0) || d) (ne_eqb _ _ z) ∙ or_none_lem (any zero_at (from n 0)))
+  contains_bottomed h = sym (ap (λ (n : ℕ). any zero_at (from n 0)) (sym h) ∙ any_places (λ y. eqb y 0) zero_at levels 0 (λ j l. ap zero_at (zero-add j)))
 
   is-bottomed : bottomed levels 96 ≡ true → (c : ℕ) × (c < 96) × (get_or levels c 0 ≡ 0)
   unfolding bottomed
@@ -156,26 +141,26 @@ module _ (shapes : List ℕ) (s : State) where
   pub none_yet : (l : List ℕ) → Sunk shapes s (LastInOrder shapes s 0) l l false
   none_yet l = skipped (LastInOrder shapes s 0) l (λ j h. absurd (omega arith))
 
-  pub one_more : (n : ℕ) {l l' l'' : List ℕ} (a b c : Bool) → Sunk shapes s (LastInOrder shapes s n) l l' a → Sunk shapes s (InOrder shapes s (29 - n)) l' l'' b
-      → ((b ≡ true) × (c ≡ true)) ⊎ ((b ≡ false) × (c ≡ a)) → Sunk shapes s (LastInOrder shapes s (n + 1)) l l'' c
-  one_more n {l = l} {l' = l'} {l'' = l''} a b c p q w = record { steps = sinks_on p.steps q.steps; falls = falls w; quiet = quiet w }
+  pub one_more : (n m k : ℕ) → m ≡ n + 1 → k ≡ 29 - n → {l l' l'' : List ℕ} (a b : Bool) → Sunk shapes s (LastInOrder shapes s n) l l' a → Sunk shapes s (InOrder shapes s k) l' l'' b
+      → Sunk shapes s (LastInOrder shapes s m) l l'' (a || b)
+  one_more n m k em ek {l = l} {l' = l'} {l'' = l''} a b p q = record { steps = sinks_on p.steps q.steps; falls = falls a b p.falls q.falls; quiet = λ e. quiet (none a b e) }
     where
-      falls : ((b ≡ true) × (c ≡ true)) ⊎ ((b ≡ false) × (c ≡ a)) → c ≡ true → sum l'' < sum l
-      falls (inl (x, y)) e = omega (arith, q.falls x, sinks_le p.steps)
-      falls (inr (x, y)) e = omega (arith, p.falls (sym y ∙ e), sinks_le q.steps)
+      falls : (a b : Bool) → (a ≡ true → sum l' < sum l) → (b ≡ true → sum l'' < sum l') → (a || b) ≡ true → sum l'' < sum l
+      falls true b f g e = omega (arith, f refl, sinks_le q.steps)
+      falls false b f g e = omega (arith, g e, sinks_le p.steps)
 
-      quiet : ((b ≡ true) × (c ≡ true)) ⊎ ((b ≡ false) × (c ≡ a)) → c ≡ false → (l'' ≡ l) × LastInOrder shapes s (n + 1) l
-      quiet (inl (x, y)) e = absurd (false≢true (sym e ∙ y))
-      quiet (inr (x, y)) e =
-          let (same, before) = p.quiet (sym y ∙ e) in
-          let (still, here) = q.quiet x in (
+      none : (a b : Bool) → (a || b) ≡ false → (a ≡ false) × (b ≡ false)
+      none true b e = absurd (false≢true (sym e))
+      none false b e = (refl, e)
+
+      quiet : (a ≡ false) × (b ≡ false) → (l'' ≡ l) × LastInOrder shapes s m l
+      quiet (x, y) =
+          let (same, before) = p.quiet x in
+          let (still, here) = q.quiet y in (
             still ∙ same,
             λ j h. by_test (ltb j n) (λ t. before j (ltb-true _ _ t))
-                (λ t. let z : n ≡ j = omega (arith, ltb-false j n t) in subst (λ (i : ℕ). InOrder shapes s (29 - i) l) z (subst (InOrder shapes s (29 - n)) same here)),
+                (λ t. let z : k ≡ 29 - j = omega (arith, em, ek, ltb-false j n t) in subst (λ (i : ℕ). InOrder shapes s i l) z (subst (InOrder shapes s k) same here)),
           )
-
-  pub all_done : (n : ℕ) {l l' : List ℕ} {b : Bool} → n ≤ 30 → 30 ≤ n → Sunk shapes s (LastInOrder shapes s n) l l' b → Sunk shapes s (LastInOrder shapes s 30) l l' b
-  all_done n {l = l} {l' = l'} {b = b} h i p = let e : n ≡ 30 = omega arith in subst (λ (k : ℕ). Sunk shapes s (LastInOrder shapes s k) l l' b) e p
 
   -- ---- the result
 

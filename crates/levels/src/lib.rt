@@ -8,7 +8,6 @@ ghost use Rattle.ranks.specs.Ranks.{own_class, ranking_of};
 ghost use Rattle.levels.specs.Levels.{InOrder, LastInOrder, LowestPart, Sunk, bottomed};
 
 use ranks::rank_at;
-use slots::wide;
 
 // The lowest level of the parts of shape k, which has some.
 fn lowest_part(
@@ -25,13 +24,8 @@ fn lowest_part(
     ensures { LowestPart shapes.now classes.now levels.now k many result }
 {
     let mut low = rank_at(classes, levels, slots::part(shapes, k, 0));
-    let mut p: usize = 1;
-    while p < many {
-        let level = rank_at(classes, levels, slots::part(shapes, k, p));
-        if level < low {
-            low = level;
-        }
-        p += 1;
+    for p in 1..many {
+        low = low.min(rank_at(classes, levels, slots::part(shapes, k, p)));
     }
     low
 }
@@ -42,7 +36,7 @@ fn own_class(classes: &[u8; 96], shapes: &[u16; 256], k: usize) -> usize
     requires shapes_fit { ShapesFit shapes.now }
     ensures { result ≡ own_class shapes.now classes.now k }
 {
-    wide(classes::class_of(classes, slots::owner(shapes, k)))
+    classes::class_of(classes, slots::owner(shapes, k)) as usize
 }
 
 // The class of shape k sinks to one below its lowest part if it is not below it; true if so.
@@ -89,29 +83,18 @@ fn sink_all(
     ensures { Sunk shapes.now (state classes.now labels.now) (LastInOrder shapes.now (state classes.now labels.now) 30) levels.old levels.new result }
 {
     let mut any = false;
-    let mut i: usize = 0;
-    while i < 30 {
-        if sink(classes, labels, shapes, levels, 29 - i) {
-            any = true;
-        }
-        i += 1;
+    for k in (0..30).rev() {
+        any |= sink(classes, labels, shapes, levels, k);
     }
     any
 }
 
 // Whether a class is at the bottom.
+#[tactic(auto, unfolding(crate::specs::Levels::bottomed))]
 fn is_bottomed(levels: &[u8; 96]) -> bool
     ensures { result ≡ bottomed levels.now 96 }
 {
-    let mut any = false;
-    let mut c: usize = 0;
-    while c < 96 {
-        if levels[c] == 0 {
-            any = true;
-        }
-        c += 1;
-    }
-    any
+    levels.contains(&0)
 }
 
 // Whether a class is a part of itself.

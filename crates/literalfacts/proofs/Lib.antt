@@ -1,2 +1,1 @@
-pub mod LiteralTests
 pub mod LiteralLaws

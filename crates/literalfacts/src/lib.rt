@@ -23,6 +23,7 @@ fn assert_fact(classes: &mut [u8; 96], labels: &mut [u16; 96], kind: u8, term: u
     }
 }
 
+#[tactic(auto, unfolding(crate::specs::Literals::literal_at))]
 fn assert_literal(
     classes: &mut [u8; 96],
     labels: &mut [u16; 96],
@@ -41,6 +42,7 @@ fn assert_literal(
     assert_fact(classes, labels, kinds[j], terms[j], others[j]);
 }
 
+#[tactic(auto, using(facts::proofs::Adding::next_slot), unfolding(crate::specs::Literals::literals_by))]
 pub fn assert_literals(
     classes: &mut [u8; 96],
     labels: &mut [u16; 96],
@@ -54,9 +56,7 @@ pub fn assert_literals(
     ensures labels_after { state classes.new labels.new ≡ foldl add (state classes.old labels.old) (literals_by kinds.now terms.now others.now many) }
     ensures held_2 { Held classes.new }
 {
-    let mut j: usize = 0;
-    while j < many {
+    for j in 0..many {
         assert_literal(classes, labels, kinds, terms, others, many, j);
-        j += 1;
     }
 }

@@ -33,13 +33,11 @@ pub fn put_literals(literals: LiteralTable, names: &[u8; 24], out: &mut [u8], at
 {
     let many = literals.many;
     let mut end = End { fits: true, at };
-    let mut i: usize = 0;
-    while i < many {
+    for i in 0..many {
         if !end.fits {
             return end;
         }
         end = put_literal(literals, i, names, out, end.at);
-        i += 1;
     }
     end
 }

@@ -42,13 +42,13 @@ fn leaf_of(tables: Tables, problem: Problem, classes: &[u8; 96], labels: &[u16; 
     Leaf {
         classes: own,
         labels: cut,
-        shapes: shapes,
-        sorts: sorts,
-        fieldless: fieldless,
-        constants: constants,
-        values: values,
-        marks: marks,
-        ranks: ranks,
+        shapes,
+        sorts,
+        fieldless,
+        constants,
+        values,
+        marks,
+        ranks,
     }
 }
 
@@ -77,10 +77,8 @@ fn set_places(classes: &[u8; 96], at: &[u16; 96], many: usize, places: &mut [i32
     requires many_in_bounds { many ≤ length places.old }
     ensures { PlacesSet classes.now at.now many places.old places.new }
 {
-    let mut i: usize = 0;
-    while i < many {
+    for i in 0..many {
         places[i] = classrow::row_at(at, classes[i]) as i32;
-        i += 1;
     }
 }
 
@@ -105,9 +103,9 @@ pub fn draw(
     let defaults = tables.defaults;
     let growth = growth_of(table);
     let forms = Forms {
-        table: table,
-        defaults: defaults,
-        growth: growth,
+        table,
+        defaults,
+        growth,
     };
     let mut at = [0u16; 96];
     let many = draw_rows(leaf, forms, &mut at, rows);

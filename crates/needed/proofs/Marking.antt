@@ -10,9 +10,9 @@ use native.Mathlib.Numerals.{add-one}
 use native.Mathlib.Omega.{arith}
 use lib.Dec.{eqb, ltb}
 use lib.ListN.{get_or-eq_default, get_or, get_or-replicate, length, length-replicate, length-set, replicate, set}
-use borrow.Author.Tests.{eq-eqb, eqb-false, eqb-true, ne_eqb, ltb-false, ltb-true, not-false, not-true}
+use borrow.Author.Tests.{eqb-false, eqb-true, ltb-false, ltb-true, not-false, not-true}
 use Rattle.laws.specs.Lists.{sum}
-use Rattle.laws.proofs.Bools.{by_test, either, or_cases, or_false, or_left}
+use Rattle.laws.proofs.Bools.{by_test, either, or_cases, or_false}
 use Rattle.laws.proofs.Stores.{set_cases, set_ind, set_same, sum-set_le, sum-set_lt}
 use Rattle.guard.specs.Closure.{State, class_of}
 use Rattle.arrays.specs.Slots.{active, many_at, owner_at}
@@ -30,15 +30,6 @@ marked_already : (l : List ℕ) (c : ℕ) → Marked l c → set l c 0 ≡ l
 marked_already [] c e = refl
 marked_already (x ∷ xs) zero e = ap (λ (y : ℕ). y ∷ xs) (sym e)
 marked_already (x ∷ xs) (suc c) e = ap (λ (ys : List ℕ). x ∷ ys) (marked_already xs c e)
-
--- ---- the test of a class
-
-pub starts : (class start c : ℕ) (b : Bool) → class ≡ c → class ≡ start → true ≡ (eqb c start || b)
-starts class start c b e q = sym (or_left (eqb c start) b (eq-eqb c start (sym e ∙ q)))
-
-pub starts_not : (l : List ℕ) (class start c w : ℕ) → class ≡ c → ¬ (class ≡ start) → w ≡ class → eqb (get_or l w 0) 0 ≡ (eqb c start || eqb (get_or l c 0) 0)
-starts_not l class start c w e n q =
-    ap (λ (k : ℕ). eqb (get_or l k 0) 0) (q ∙ e) ∙ ap (λ (b : Bool). b || eqb (get_or l c 0) 0) (sym (ne_eqb c start (λ z. n (e ∙ z))))
 
 -- ---- the rows
 
@@ -97,26 +88,19 @@ module _ (shapes : List ℕ) (s : State) (start : ℕ) where
     pub none_yet : (l : List ℕ) → Pass shapes s start (UpTo Claim 0) l l false
     none_yet l = skipped (UpTo Claim 0) l (λ j h. absurd (omega arith))
 
-    pub one_more : (n : ℕ) {l l' l'' : List ℕ} (a b c : Bool) → Pass shapes s start (UpTo Claim n) l l' a → Pass shapes s start (Claim n) l' l'' b
-        → ((b ≡ true) × (c ≡ true)) ⊎ ((b ≡ false) × (c ≡ a)) → Pass shapes s start (UpTo Claim (n + 1)) l l'' c
-    one_more n {l = l} {l' = l'} {l'' = l''} a b c p q w = record { steps = steps_on p.steps q.steps; falls = falls w; quiet = quiet w }
-      where
-        falls : ((b ≡ true) × (c ≡ true)) ⊎ ((b ≡ false) × (c ≡ a)) → c ≡ true → sum l'' < sum l
-        falls (inl (x, y)) e = omega (arith, q.falls x, steps_le p.steps)
-        falls (inr (x, y)) e = omega (arith, p.falls (sym y ∙ e), steps_le q.steps)
-
-        quiet : ((b ≡ true) × (c ≡ true)) ⊎ ((b ≡ false) × (c ≡ a)) → c ≡ false → (l'' ≡ l) × UpTo Claim (n + 1) l
-        quiet (inl (x, y)) e = absurd (false≢true (sym e ∙ y))
-        quiet (inr (x, y)) e =
-            let (same, before) = p.quiet (sym y ∙ e) in
-            let (still, here) = q.quiet x in (
-              still ∙ same,
-              λ j h. by_test (ltb j n) (λ t. before j (ltb-true _ _ t))
-                  (λ t. let z : n ≡ j = omega (arith, ltb-false j n t) in subst (λ (i : ℕ). Claim i l) z (subst (Claim n) same here)),
-            )
-
-    pub all_done : (n end : ℕ) {l l' : List ℕ} {b : Bool} → n ≤ end → end ≤ n → Pass shapes s start (UpTo Claim n) l l' b → Pass shapes s start (UpTo Claim end) l l' b
-    all_done n end {l = l} {l' = l'} {b = b} h i p = let e : n ≡ end = omega arith in subst (λ (k : ℕ). Pass shapes s start (UpTo Claim k) l l' b) e p
+    pub one_more : (n : ℕ) {l l' l'' : List ℕ} (a b : Bool) → Pass shapes s start (UpTo Claim n) l l' a → Pass shapes s start (Claim n) l' l'' b
+        → Pass shapes s start (UpTo Claim (n + 1)) l l'' (a || b)
+    one_more n {l = l} {l' = l'} {l'' = l''} a b p q = record {
+      steps = steps_on p.steps q.steps;
+      falls = λ e. either (λ x. omega (arith, p.falls x, steps_le q.steps)) (λ y. omega (arith, q.falls y, steps_le p.steps)) (or_cases a b e);
+      quiet = λ e. let (x, y) = or_false a b e in
+          let (same, before) = p.quiet x in
+          let (still, here) = q.quiet y in (
+            still ∙ same,
+            λ j h. by_test (ltb j n) (λ t. before j (ltb-true _ _ t))
+                (λ t. let z : n ≡ j = omega (arith, ltb-false j n t) in subst (λ (i : ℕ). Claim i l) z (subst (Claim n) same here)),
+          );
+    }
 
   -- a shape that is not there, or not marked, has nothing to say
   pub not_active : (k : ℕ) (l : List ℕ) → active shapes s k ≡ false → Pass shapes s start (Followed shapes s start k) l l false

@@ -6,12 +6,6 @@ ghost use Rattle.classes.specs.Held.{Held, state};
 ghost use Rattle.arrays.specs.Slots.{ShapesFit, active, many_at};
 ghost use Rattle.needed.specs.Needed.{AllFollowed, Followed, Leads, Marks, PartMarked, Pass, UpTo, no_marks, own_class, row_marks};
 
-fn wide(x: u8) -> usize
-    ensures { result ≡ x }
-{
-    x as usize
-}
-
 // ---- marks: 0 for marked
 
 pub fn clear(spare: &mut [u8; 96])
@@ -30,7 +24,7 @@ fn leads(classes: &[u8; 96], spare: &[u8; 96], start: u8, x: u8) -> bool
     if class == start {
         return true;
     }
-    spare[wide(class)] == 0
+    spare[class as usize] == 0
 }
 
 // Marks the class of a term; true if it was not marked.
@@ -40,7 +34,7 @@ fn mark(classes: &[u8; 96], spare: &mut [u8; 96], x: u8) -> bool
     ensures value { result ≡ not (eqb (get_or spare.old (get_or classes.now x 0) 0) 0) }
     ensures spare_after { spare.new ≡ set spare.old (get_or classes.now x 0) 0 }
 {
-    let c = wide(classes::class_of(classes, x));
+    let c = classes::class_of(classes, x) as usize;
     let new = spare[c] != 0;
     spare[c] = 0;
     new
@@ -51,10 +45,8 @@ fn mark_rows(classes: &[u8; 96], rows: usize, spare: &mut [u8; 96])
     requires held { Held classes.now }
     ensures { spare.new ≡ row_marks classes.now rows spare.old }
 {
-    let mut i: usize = 0;
-    while i < rows {
+    for i in 0..rows {
         mark(classes, spare, i as u8);
-        i += 1;
     }
 }
 
@@ -76,12 +68,8 @@ fn mark_parts(
 {
     let many = slots::many(shapes, k);
     let mut changed = false;
-    let mut p: usize = 0;
-    while p < many {
-        if mark(classes, spare, slots::part(shapes, k, p)) {
-            changed = true;
-        }
-        p += 1;
+    for p in 0..many {
+        changed |= mark(classes, spare, slots::part(shapes, k, p));
     }
     changed
 }
@@ -122,12 +110,8 @@ fn follow_all(
     ensures { Pass shapes.now (state classes.now labels.now) start (UpTo (Followed shapes.now (state classes.now labels.now) start) 30) spare.old spare.new result }
 {
     let mut any = false;
-    let mut k: usize = 0;
-    while k < 30 {
-        if follow(classes, labels, shapes, start, spare, k) {
-            any = true;
-        }
-        k += 1;
+    for k in 0..30 {
+        any |= follow(classes, labels, shapes, start, spare, k);
     }
     any
 }

@@ -20,12 +20,10 @@ fn chosen_entry(arities: &[u8], sorts: &[u8], finite: &[u8], w: u16) -> u8
     ensures { result ≡ chosen_entry arities.now sorts.now finite.now w }
 {
     let n = columns::at(arities, w);
-    let mut p: u8 = 0;
-    while p < n {
+    for p in 0..n {
         if is_infinite(sorts, finite, w, p) {
             return p;
         }
-        p += 1;
     }
     n
 }
@@ -34,10 +32,8 @@ pub fn chosen_entries(arities: &[u8; 48], sorts: &[u8; 144], finite: &[u8; 6]) -
     ensures { result ≡ filled 48 (chosen_entry arities.now sorts.now finite.now) 48 }
 {
     let mut column = [0u8; 48];
-    let mut w: u16 = 0;
-    while w < 48 {
+    for w in 0..48u16 {
         column[w as usize] = chosen_entry(arities, sorts, finite, w);
-        w += 1;
     }
     column
 }
@@ -54,12 +50,10 @@ fn growing_entry(variants: &[u8], first: &[u8], arities: &[u8], t: u8) -> u8
 {
     let n = columns::at(variants, t as u16);
     let start = columns::at(first, t as u16);
-    let mut v: u8 = 0;
-    while v < n {
+    for v in 0..n {
         if is_fielded(arities, start, v) {
             return v;
         }
-        v += 1;
     }
     n
 }
@@ -69,10 +63,8 @@ pub fn growing_entries(many: u8, variants: &[u8; 6], first: &[u8; 6], arities: &
     ensures { result ≡ filled 6 (growing_entry variants.now first.now arities.now) many }
 {
     let mut column = [0u8; 6];
-    let mut t: u8 = 0;
-    while t < many {
+    for t in 0..many {
         column[t as usize] = growing_entry(variants, first, arities, t);
-        t += 1;
     }
     column
 }
@@ -120,10 +112,8 @@ pub fn next_entries(
     ensures { result ≡ filled 6 (next_entry variants.now first.now arities.now sorts.now chosen.now growing.now) many }
 {
     let mut column = [0u8; 6];
-    let mut t: u8 = 0;
-    while t < many {
+    for t in 0..many {
         column[t as usize] = next_entry(variants, first, arities, sorts, chosen, growing, t);
-        t += 1;
     }
     column
 }

@@ -12,6 +12,7 @@ use levels::is_cyclic;
 use reasons::{broken_line, empty_label, unlike_constants};
 
 // Whether one of the four reasons closes the node, the dearest to find out last.
+#[tactic(auto, unfolding(crate::specs::Closed::closed_by))]
 pub fn is_closed(
     classes: &[u8; 96],
     labels: &[u16; 96],

@@ -7,8 +7,10 @@ use Prim.Native.Nat.{ℕ, zero, suc, ◌+◌, ◌≤◌, ◌<◌}
 use native.Mathlib.Numerals.{add-one}
 use native.Mathlib.Omega.{arith}
 use lib.Dec.{eqb, leb}
-use lib.ListN.{length, get_or, drop}
-use borrow.Author.Tests.{eq-eqb, le-leb, lt-leb, ne_eqb}
+use lib.ListN.{length, get_or, drop, take}
+use Rattle.std.specs.List.{count_by}
+use Rattle.std.proofs.lemmas.Grind.{common_steps}
+use borrow.Author.Tests.{le-leb, lt-leb, ne_eqb}
 use Rattle.laws.specs.Lists.{cons_if, filter}
 use Rattle.guard.specs.File.{bytes, count, types}
 use Rattle.guard.specs.Limits.{base}
@@ -30,24 +32,15 @@ use Rattle.numbertypes.specs.Asked.{question_of, zeroes}
 abbrev one : ℕ → ℕ
 one x = cond (eqb x 0) 1 0
 
-one_at_most : (b : Bool) → cond b 1 0 ≤ 1
-one_at_most true = omega arith
-one_at_most false = omega arith
-
-pub few-zeroes : (xs : List ℕ) (n : ℕ) → zeroes xs n ≤ n
-few-zeroes xs zero = omega arith
-few-zeroes xs (suc n) = omega (arith, few-zeroes xs n, one_at_most (eqb (get_or xs n 0) 0))
-
 -- a number more
-module _ (xs : List ℕ) (n : ℕ) where
-  zeroes-next : (b : Bool) → eqb (get_or xs n 0) 0 ≡ b → zeroes xs (n + 1) ≡ zeroes xs n + cond b 1 0
-  zeroes-next b e = ap (zeroes xs) (add-one n) ∙ ap (λ (x : Bool). zeroes xs n + cond x 1 0) e
+counted : (xs : List ℕ) (n : ℕ) → n < length xs → count_by (λ x. eqb x 0) (take (n + 1) xs) ≡ count_by (λ x. eqb x 0) (take n xs) + cond (eqb (get_or xs n 0) 0) 1 0
+counted xs n h = grind (arith, common_steps)
 
-  pub one_more : get_or xs n 0 ≡ 0 → zeroes xs (n + 1) ≡ zeroes xs n + 1
-  one_more e = zeroes-next true (eq-eqb (get_or xs n 0) 0 e)
-
-  pub none_more : ¬ (get_or xs n 0 ≡ 0) → zeroes xs (n + 1) ≡ zeroes xs n
-  none_more e = let is : zeroes xs (n + 1) ≡ zeroes xs n + 0 = zeroes-next false (ne_eqb (get_or xs n 0) 0 e) in omega (arith, is)
+pub zeroes_count : (xs : List ℕ) (n : ℕ) → n ≤ length xs → zeroes xs n ≡ count_by (λ x. eqb x 0) (take n xs)
+zeroes_count xs zero h = refl
+zeroes_count xs (suc n) h =
+    ap (λ (k : ℕ). k + cond (eqb (get_or xs n 0) 0) 1 0) (zeroes_count xs n (omega arith)) ∙ sym (counted xs n (omega arith))
+    ∙ ap (λ (k : ℕ). count_by (λ x. eqb x 0) (take k xs)) (add-one n)
 
 zeroes-front : (x : ℕ) (xs : List ℕ) (n : ℕ) → zeroes (x ∷ xs) (suc n) ≡ one x + zeroes xs n
 zeroes-front x xs zero = omega arith

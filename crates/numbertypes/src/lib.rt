@@ -9,19 +9,12 @@ ghost use Rattle.serialize.specs.NumberList.{types_asked};
 ghost use Rattle.numbertypes.specs.Asked.{question_of, zeroes};
 
 // How many of the first types have no variant.
+#[tactic(auto, using(crate::proofs::AskedLaws::zeroes_count))]
 fn number_types(many: usize, variants: &[u8; 6]) -> usize
     requires { many ≤ 6 }
     ensures { result ≡ zeroes variants.now many }
 {
-    let mut numbers: usize = 0;
-    let mut t: usize = 0;
-    while t < many {
-        if variants[t] == 0 {
-            numbers += 1;
-        }
-        t += 1;
-    }
-    numbers
+    variants[..many].iter().filter(|n| **n == 0).count()
 }
 
 // The first question about the types part that gets a no, 18 the last of them, or 0.

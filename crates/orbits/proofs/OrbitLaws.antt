@@ -10,7 +10,7 @@ use lib.ListN.{get_or}
 use Rattle.laws.proofs.Positions.{least, least_most}
 use Rattle.growth.proofs.Orbit.{distance, iterate, iterate_add, lowest, period, root}
 use Rattle.columns.proofs.Searches.{least_here, least_on}
-use Rattle.orbits.specs.Orbits.{distance_entry, met_after, number_after, on_to, period_entry, root_entry, steps_entry}
+use Rattle.orbits.specs.Orbits.{distance_entry, met_after, on_to, period_entry, root_entry}
 
 -- steps of a function
 module _ (f : ℕ → ℕ) where
@@ -30,10 +30,6 @@ module _ (f : ℕ → ℕ) where
 pub at_next : (next : List ℕ) (u x k t : ℕ) → x ≡ get_or next u 0 → u ≡ iterate (on_to next) k t → x ≡ iterate (on_to next) (k + 1) t
 unfolding on_to
 at_next next u x k t is_x e = is_x ∙ iterate_next (on_to next) k t u e
-
-pub steps-is : (variants next : List ℕ) (many t x : ℕ) → x ≡ least (number_after variants next t) many → x ≡ steps_entry variants next many t
-unfolding steps_entry
-steps-is variants next many t x e = e
 
 -- ---- cycles
 

@@ -2,26 +2,18 @@
 // `specs/Orbits.antt` says what each entry is.
 #![tactic(auto)]
 
-ghost use Rattle.std.specs.Prelude.{◌≡◌, ◌<◌, ◌≤◌, min};
+ghost use Rattle.std.specs.Prelude.{◌≡◌, ◌<◌, ◌≤◌};
 ghost use Rattle.growth.proofs.Orbit.{iterate};
 ghost use Rattle.orbits.specs.Orbits.{distance_entry, met_after, number_after, on_to, period_entry, root_entry, steps_entry};
 ghost use Rattle.columns.specs.Entries.{filled};
-
-fn lower(x: u8, y: u8) -> u8
-    ensures { result ≡ min x y }
-{
-    if x < y { x } else { y }
-}
 
 // The type after so many steps of growth. All searches below start again from the type: there are at most six types.
 fn after(next: &[u8], steps: u8, t: u8) -> u8
     ensures { result ≡ iterate (on_to next.now) steps t }
 {
     let mut u = t;
-    let mut k: u8 = 0;
-    while k < steps {
+    for _ in 0..steps {
         u = columns::at(next, u as u16);
-        k += 1;
     }
     u
 }
@@ -36,12 +28,10 @@ fn is_number_after(variants: &[u8], next: &[u8], t: u8, k: u8) -> bool
 fn steps_entry(variants: &[u8], next: &[u8], many: u8, t: u8) -> u8
     ensures { result ≡ steps_entry variants.now next.now many t }
 {
-    let mut k: u8 = 0;
-    while k < many {
+    for k in 0..many {
         if is_number_after(variants, next, t, k) {
             return k;
         }
-        k += 1;
     }
     many
 }
@@ -51,10 +41,8 @@ pub fn steps_entries(many: u8, variants: &[u8; 6], next: &[u8; 6]) -> [u8; 6]
     ensures { result ≡ filled 6 (steps_entry variants.now next.now many) many }
 {
     let mut column = [0u8; 6];
-    let mut t: u8 = 0;
-    while t < many {
+    for t in 0..many {
         column[t as usize] = steps_entry(variants, next, many, t);
-        t += 1;
     }
     column
 }
@@ -65,10 +53,8 @@ fn root_entry(next: &[u8], many: u8, t: u8) -> u8
 {
     let start = after(next, many, t);
     let mut root = start;
-    let mut k: u8 = 0;
-    while k < many {
-        k += 1;
-        root = lower(root, after(next, k, start));
+    for k in 0..many {
+        root = root.min(after(next, k + 1, start));
     }
     root
 }
@@ -83,12 +69,10 @@ fn distance_entry(next: &[u8], many: u8, t: u8) -> u8
     ensures { result ≡ distance_entry next.now many t }
 {
     let root = root_entry(next, many, t);
-    let mut k: u8 = 0;
-    while k < many {
+    for k in 0..many {
         if is_met_after(next, t, root, k) {
             return k;
         }
-        k += 1;
     }
     many
 }
@@ -96,14 +80,12 @@ fn distance_entry(next: &[u8], many: u8, t: u8) -> u8
 fn period_entry(next: &[u8], many: u8, t: u8) -> u8
     ensures { result ≡ period_entry next.now many t }
 {
-    let mut k: u8 = 1;
-    while k < many {
+    for k in 1..many {
         if is_met_after(next, t, t, k) {
             return k;
         }
-        k += 1;
     }
-    k
+    many.max(1)
 }
 
 // The cycle that growth from each type ends in.
@@ -125,12 +107,10 @@ pub fn cycle_entries(many: u8, next: &[u8; 6]) -> Cycles
     let mut root = [0u8; 6];
     let mut distance = [0u8; 6];
     let mut period = [0u8; 6];
-    let mut t: u8 = 0;
-    while t < many {
+    for t in 0..many {
         root[t as usize] = root_entry(next, many, t);
         distance[t as usize] = distance_entry(next, many, t);
         period[t as usize] = period_entry(next, many, t);
-        t += 1;
     }
     Cycles {
         root,

@@ -5,16 +5,10 @@
 
 ghost use Rattle.std.specs.Prelude.{◌≡◌, ◌+◌, ◌*◌, ◌<◌, length};
 
-fn two_bytes(low: u8, high: u8) -> usize
-    ensures { result ≡ low + 256 * high }
-{
-    low as usize + high as usize * 256
-}
-
 fn four_bytes(a: u8, b: u8, c: u8, d: u8) -> u32
     ensures { result ≡ a + 256 * b + 65536 * c + 16777216 * d }
 {
-    a as u32 + b as u32 * 256 + c as u32 * 65536 + d as u32 * 16777216
+    u32::from_le_bytes([a, b, c, d])
 }
 
 // The length of the next file; 65535 after the last, or where the input ends.
@@ -24,7 +18,7 @@ fn next_length() -> usize {
     if n < 2 {
         return 65535;
     }
-    two_bytes(two[0], two[1])
+    usize::from(u16::from_le_bytes(two))
 }
 
 // Reads the next file to the start of the buffer, and answers its length; or a number above the buffer's length, if there

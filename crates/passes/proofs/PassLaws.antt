@@ -163,11 +163,15 @@ module _ (due : ℕ → Due) where
   remembered true b c (inr (e, h)) = sym h
   remembered false b c (inr (e, h)) = e ∙ sym h
 
+  -- with `changed |= ..`
+  pub one_more_or : (n : ℕ) {s s' s'' : State} (a b : Bool) → Pass (up_to due n) s s' a → Pass (due n) s' s'' b → Pass (up_to due (n + 1)) s s'' (a || b)
+  one_more_or n a b p q =
+      let e : from n 0 ++ (n ∷ []) ≡ from (n + 1) 0 = sym (ap (λ (k : ℕ). from k 0) (add-one n) ∙ from_snoc n 0 ∙ ap (λ (k : ℕ). from n 0 ++ (k ∷ [])) (zero-add n)) in
+      reworded (λ x. ap (λ (es : List ℕ). due_for due es x) e) (next-entry due (from n 0) n a b p q)
+
   pub one_more : (n : ℕ) {s s' s'' : State} (a b c : Bool) → Pass (up_to due n) s s' a → Pass (due n) s' s'' b
       → ((b ≡ true) × (c ≡ true)) ⊎ ((b ≡ false) × (c ≡ a)) → Pass (up_to due (n + 1)) s s'' c
-  one_more n {s = s} {s'' = s''} a b c p q w =
-      let e : from n 0 ++ (n ∷ []) ≡ from (n + 1) 0 = sym (ap (λ (k : ℕ). from k 0) (add-one n) ∙ from_snoc n 0 ∙ ap (λ (k : ℕ). from n 0 ++ (k ∷ [])) (zero-add n)) in
-      subst (Pass (up_to due (n + 1)) s s'') (remembered a b c w) (reworded (λ x. ap (λ (es : List ℕ). due_for due es x) e) (next-entry due (from n 0) n a b p q))
+  one_more n {s = s} {s'' = s''} a b c p q w = subst (Pass (up_to due (n + 1)) s s'') (remembered a b c w) (one_more_or n a b p q)
 
   pub all_done : (n end : ℕ) {s s' : State} {b : Bool} → n ≤ end → end ≤ n → Pass (up_to due n) s s' b → Pass (up_to due end) s s' b
   all_done n end {s = s} {s' = s'} {b = b} l h p = let e : n ≡ end = omega arith in subst (λ (k : ℕ). Pass (up_to due k) s s' b) e p

@@ -35,15 +35,9 @@ module _ (marks ranks : List ℕ) (c most : ℕ) where
   unfolding higher_at is_marked
   not_marked n = ap (λ (b : Bool). cond b (max most (get_or ranks c 0)) most) (sym (ne_eqb (get_or marks c 0) 0 n))
 
-  marked-higher : get_or marks c 0 ≡ 0 → max most (get_or ranks c 0) ≡ higher_at marks ranks c most
+  pub marked-higher : get_or marks c 0 ≡ 0 → max most (get_or ranks c 0) ≡ higher_at marks ranks c most
   unfolding higher_at is_marked
   marked-higher e = ap (λ (b : Bool). cond b (max most (get_or ranks c 0)) most) (sym (eq-eqb (get_or marks c 0) 0 e))
-
-  pub rank_below : get_or marks c 0 ≡ 0 → get_or ranks c 0 < most → most ≡ higher_at marks ranks c most
-  rank_below e h = let q : most ≡ max most (get_or ranks c 0) = omega arith in q ∙ marked-higher e
-
-  pub rank_above : get_or marks c 0 ≡ 0 → most ≤ get_or ranks c 0 → get_or ranks c 0 ≡ higher_at marks ranks c most
-  rank_above e h = let q : get_or ranks c 0 ≡ max most (get_or ranks c 0) = omega arith in q ∙ marked-higher e
 
 module _ (marks ranks : List ℕ) where
   pub highest-none : 0 ≡ highest_below marks ranks 0

@@ -27,12 +27,10 @@ fn term_in(classes: &[u8; 96], sorts: &[u8; 96], c: u8) -> u8
     ensures value { result ≡ term_in classes.now sorts.now c }
     ensures upper_bound { result ≤ 78 }
 {
-    let mut y: u8 = 0;
-    while y < 78 {
+    for y in 0..78 {
         if is_member(classes, sorts, c, y) {
             return y;
         }
-        y += 1;
     }
     78
 }
@@ -97,12 +95,10 @@ pub fn variant_in(variants: &[u8; 6], first: &[u8; 6], arities: &[u8; 48], label
 {
     let many = variants[t as usize];
     let start = first[t as usize];
-    let mut v: u8 = 0;
-    while v < many {
+    for v in 0..many {
         if is_held(arities, start, label, v) {
             return v;
         }
-        v += 1;
     }
     many
 }
@@ -135,12 +131,10 @@ fn is_taken(constants: &[u8; 32], values: &[i64; 24], z: u32) -> bool
     requires { z < 65536 }
     ensures { result ≡ taken constants.now values.now z }
 {
-    let mut k: usize = 0;
-    while k < 30 {
+    for k in 0..30 {
         if is_taken_at(constants, values, z, k) {
             return true;
         }
-        k += 1;
     }
     false
 }
@@ -151,12 +145,10 @@ pub fn next_fresh(constants: &[u8; 32], values: &[i64; 24], last: u32) -> u32
     ensures { result ≡ next_fresh constants.now values.now last }
 {
     let first = last + 1;
-    let mut k: u32 = 0;
-    while k < 30 {
+    for k in 0..30 {
         if !is_taken(constants, values, first + k) {
             return first + k;
         }
-        k += 1;
     }
     first + 30
 }
@@ -170,11 +162,7 @@ fn higher(marks: &[u8; 96], ranks: &[u8; 96], c: usize, most: u8) -> u8
     if marks[c] != 0 {
         return most;
     }
-    let rank = ranks[c];
-    if rank < most {
-        return most;
-    }
-    rank
+    most.max(ranks[c])
 }
 
 // The highest rank of a class that gets a message; 0 if there is none.
@@ -182,10 +170,8 @@ pub fn highest_rank(marks: &[u8; 96], ranks: &[u8; 96]) -> u8
     ensures { result ≡ highest_of marks.now ranks.now }
 {
     let mut most: u8 = 0;
-    let mut c: usize = 0;
-    while c < 78 {
+    for c in 0..78 {
         most = higher(marks, ranks, c, most);
-        c += 1;
     }
     most
 }

@@ -1,4 +1,3 @@
-pub mod Tests
 pub mod Rounds
 pub mod RankLaws
 pub mod CycleLaws

@@ -4,19 +4,18 @@
 ghost use Rattle.std.specs.Prelude.{◌≡◌, ◌<◌, get_or};
 ghost use Rattle.classes.specs.Held.{Held, state};
 ghost use Rattle.arrays.specs.Slots.{ShapesFit};
-ghost use Rattle.ranks.specs.Ranks.{low, no_ranks, part_above, raised, raised_to, raises_to, ranking_of};
-
-use slots::wide;
+ghost use Rattle.ranks.specs.Ranks.{low, part_above, raised, raised_to, raises_to, ranking_of};
 
 pub fn rank_at(classes: &[u8; 96], ranks: &[u8; 96], x: u8) -> u8
     requires x_bound { x < 96 }
     requires held { Held classes.now }
     ensures { result ≡ get_or ranks.now (get_or classes.now x 0) 0 }
 {
-    ranks[wide(classes::class_of(classes, x))]
+    ranks[classes::class_of(classes, x) as usize]
 }
 
 // Whether a part of shape k has the rank of the shape or a higher one.
+#[tactic(auto, using(loops::proofs::Loops::any_nowhere), unfolding(crate::specs::Ranks::part_above))]
 fn part_above(classes: &[u8; 96], shapes: &[u16; 256], ranks: &[u8; 96], k: usize) -> bool
     requires k_bound { k < 30 }
     requires held { Held classes.now }
@@ -28,17 +27,16 @@ fn part_above(classes: &[u8; 96], shapes: &[u16; 256], ranks: &[u8; 96], k: usiz
         return false;
     }
     let own = rank_at(classes, ranks, slots::owner(shapes, k));
-    let mut p: usize = 0;
-    while p < many {
+    for p in 0..many {
         if own <= rank_at(classes, ranks, slots::part(shapes, k, p)) {
             return true;
         }
-        p += 1;
     }
     false
 }
 
 // The class of shape k gets the number of the round if it is not above its parts; true if so.
+#[tactic(auto, unfolding(crate::specs::Ranks::low, crate::specs::Ranks::raised))]
 fn raise(
     classes: &[u8; 96],
     labels: &[u16; 96],
@@ -59,12 +57,13 @@ fn raise(
     if !slots::active(classes, labels, shapes, k) {
         return false;
     }
-    let c = wide(classes::class_of(classes, slots::owner(shapes, k)));
+    let c = classes::class_of(classes, slots::owner(shapes, k)) as usize;
     ranks[c] = round;
     true
 }
 
 // One round over all shapes; true if a class was raised.
+#[tactic(auto, unfolding(crate::specs::Ranks::raised_to, crate::specs::Ranks::raises_to))]
 fn raise_all(
     classes: &[u8; 96],
     labels: &[u16; 96],
@@ -78,20 +77,10 @@ fn raise_all(
     ensures ranks_after { ranks.new ≡ raised_to shapes.now (state classes.now labels.now) round 30 ranks.old }
 {
     let mut any = false;
-    let mut k: usize = 0;
-    while k < 30 {
-        if raise(classes, labels, shapes, ranks, round, k) {
-            any = true;
-        }
-        k += 1;
+    for k in 0..30 {
+        any |= raise(classes, labels, shapes, ranks, round, k);
     }
     any
-}
-
-fn clear(ranks: &mut [u8; 96])
-    ensures { ranks.new ≡ no_ranks }
-{
-    *ranks = [0u8; 96];
 }
 
 // Ranks of the classes; true if they fall from each class to its parts, that is if no class is a part of itself.
@@ -106,13 +95,11 @@ pub fn rank_classes(
     ensures value { result ≡ (ranking_of shapes.now (state classes.now labels.now)).falls }
     ensures ranks_after { ranks.new ≡ (ranking_of shapes.now (state classes.now labels.now)).ranks }
 {
-    clear(ranks);
-    let mut round: u8 = 1;
-    while round < 32 {
+    *ranks = [0u8; 96];
+    for round in 1..32 {
         if !raise_all(classes, labels, shapes, ranks, round) {
             return true;
         }
-        round += 1;
     }
     false
 }

@@ -7,6 +7,7 @@ ghost use Rattle.readcolumn.specs.Reads.{constant_entry, four_places, read_entry
 ghost use Rattle.columns.specs.Entries.{filled, written};
 
 // A read, in the four places from `at` on.
+#[tactic(auto, using(crate::proofs::ReadLaws::four_written))]
 fn write_places(column: &mut [u16; 96], at: usize, a: u16, key: u16, bit: u16, absent: u16)
     requires { at + 4 ≤ 96 }
     ensures { column.new ≡ written 4 column.old at (four_places a key bit absent) }
@@ -18,6 +19,7 @@ fn write_places(column: &mut [u16; 96], at: usize, a: u16, key: u16, bit: u16, a
 }
 
 // What row `i`, a field read, reads.
+#[tactic(auto, using(crate::proofs::ReadLaws::read_written))]
 fn write_read(column: &mut [u16; 96], types: &[u8], variants: &[u8], parts: &[u8], i: u16)
     requires { i < 24 }
     ensures { column.new ≡ written 4 column.old (4 * i) (row_read types.now variants.now parts.now i) }
@@ -39,6 +41,7 @@ fn write_read(column: &mut [u16; 96], types: &[u8], variants: &[u8], parts: &[u8
 }
 
 // Only field reads are written.
+#[tactic(auto, using(crate::proofs::ReadLaws::reads_filled))]
 pub fn read_entries(
     kinds: &[u8; 24],
     types: &[u8; 24],
@@ -48,16 +51,15 @@ pub fn read_entries(
     ensures { result ≡ filled 96 (read_entry kinds.now types.now variants.now parts.now) 96 }
 {
     let mut column = [0u16; 96];
-    let mut i: u16 = 0;
-    while i < 24 {
+    for i in 0..24 {
         if columns::byte(kinds, i) == 3 {
             write_read(&mut column, types, variants, parts, i);
         }
-        i += 1;
     }
     column
 }
 
+#[tactic(auto, unfolding(crate::specs::Reads::constant_entry))]
 fn constant_entry(count: usize, kinds: &[u8], types: &[u8], counts: &[u8], i: u16) -> u8
     ensures { result ≡ constant_entry count kinds.now types.now counts.now i }
 {
@@ -72,6 +74,7 @@ fn constant_entry(count: usize, kinds: &[u8], types: &[u8], counts: &[u8], i: u1
     columns::choose_byte(many == 0, number, 0)
 }
 
+#[tactic(auto, using(crate::proofs::ReadLaws::constants_filled))]
 pub fn constant_entries(
     count: usize,
     kinds: &[u8; 24],
@@ -81,10 +84,8 @@ pub fn constant_entries(
     ensures { result ≡ filled 32 (constant_entry count kinds.now types.now counts.now) 32 }
 {
     let mut column = [0u8; 32];
-    let mut i: u16 = 0;
-    while i < 32 {
+    for i in 0..32 {
         column[i as usize] = constant_entry(count, kinds, types, counts, i);
-        i += 1;
     }
     column
 }

@@ -25,22 +25,16 @@ fn mix_value(sum: u64, entry: i64) -> u64 {
 
 fn mix_bytes(start: u64, column: &[u8]) -> u64 {
     let mut sum = start;
-    let mut i: usize = 0;
-    while i < column.len() {
-        let entry = column[i];
-        sum = mix_byte(sum, entry);
-        i += 1;
+    for entry in column {
+        sum = mix_byte(sum, *entry);
     }
     sum
 }
 
 fn mix_values(start: u64, column: &[i64]) -> u64 {
     let mut sum = start;
-    let mut i: usize = 0;
-    while i < column.len() {
-        let entry = column[i];
-        sum = mix_value(sum, entry);
-        i += 1;
+    for entry in column {
+        sum = mix_value(sum, *entry);
     }
     sum
 }
@@ -142,8 +136,9 @@ fn one_file() -> bool {
 
 // Nothing says that the input ends, so the files are counted.
 fn main() {
-    let mut files: u32 = 0;
-    while files < 65536 && one_file() {
-        files += 1;
+    for _ in 0..65536 {
+        if !one_file() {
+            return;
+        }
     }
 }

@@ -35,12 +35,8 @@ pub fn pass_defaults(classes: &mut [u8; 96], labels: &mut [u16; 96], reads: &[u1
     ensures held_2 { Held classes.new }
 {
     let mut changed = false;
-    let mut k: usize = 0;
-    while k < 24 {
-        if join_default(classes, labels, reads, k) {
-            changed = true;
-        }
-        k += 1;
+    for k in 0..24 {
+        changed |= join_default(classes, labels, reads, k);
     }
     changed
 }
@@ -82,12 +78,8 @@ fn pass_read(classes: &mut [u8; 96], labels: &mut [u16; 96], reads: &[u16; 96], 
     ensures held_2 { Held classes.new }
 {
     let mut changed = false;
-    let mut i: usize = 0;
-    while i < k {
-        if meet_reads(classes, labels, reads, k, i) {
-            changed = true;
-        }
-        i += 1;
+    for i in 0..k {
+        changed |= meet_reads(classes, labels, reads, k, i);
     }
     changed
 }
@@ -99,12 +91,8 @@ pub fn pass_reads(classes: &mut [u8; 96], labels: &mut [u16; 96], reads: &[u16; 
     ensures held_2 { Held classes.new }
 {
     let mut changed = false;
-    let mut k: usize = 0;
-    while k < 24 {
-        if pass_read(classes, labels, reads, k) {
-            changed = true;
-        }
-        k += 1;
+    for k in 0..24 {
+        changed |= pass_read(classes, labels, reads, k);
     }
     changed
 }

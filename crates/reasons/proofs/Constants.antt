@@ -2,16 +2,16 @@
 use mathlib.Core.Path.{◌≡◌, refl, ap, sym, ◌∙◌}
 use mathlib.Core.Bool.{Bool, true, false, not, false≢true, ◌&&◌, ◌||◌}
 use mathlib.Core.List.{List}
-use Prim.Native.Nat.{ℕ, ◌+◌, ◌≤◌, ◌<◌}
+use Prim.Native.Nat.{ℕ, ◌+◌, ◌<◌, min}
 use native.Mathlib.Nat.{zero-add}
 use native.Mathlib.Numerals.{add-one}
 use native.Mathlib.Omega.{arith}
-use lib.Dec.{eqb}
+use lib.Dec.{eqb, ltb}
 use lib.IntN.{ℤ}
 use lib.ListN.{get_or}
-use borrow.Author.Tests.{eq-eqb, eqb-true, not-true}
+use borrow.Author.Tests.{eq-eqb, eqb-true, ltb-false, ltb-true, not-true}
 use Rattle.laws.specs.Lists.{from}
-use Rattle.laws.proofs.Bools.{and_both, and_left, and_right}
+use Rattle.laws.proofs.Bools.{and_both, and_left, and_right, by_test}
 use Rattle.laws.proofs.Lists.{any_some, from_bounds}
 use Rattle.guard.specs.Closure.{eq_z}
 use Rattle.guard.proofs.ClosureBelow.{eq_z_true}
@@ -44,11 +44,10 @@ module _ (constants : List ℕ) (values : List ℤ) (classes : List ℕ) where
       next : (d : ℕ) → at (k + 1) d ≡ (at k d || eqb c d)
       next d = at_next k d ∙ ap (λ (b : Bool). at k d || (b && eqb (constant_class classes k) d)) e ∙ ap (λ (n : ℕ). at k d || eqb n d) (sym is_c)
 
-      pub unlike-lower : c < found → c ≡ lowest (unlike_at constants values classes (k + 1)) 96
-      unlike-lower l = lowest_new (at k) (at (k + 1)) 96 c h next (omega (arith, is))
-
-      pub unlike-kept : found ≤ c → found ≡ lowest (unlike_at constants values classes (k + 1)) 96
-      unlike-kept l = is ∙ lowest-old (at k) (at (k + 1)) 96 c h next (omega (arith, is))
+      pub unlike_lowest : min found c ≡ lowest (unlike_at constants values classes (k + 1)) 96
+      unlike_lowest =
+          by_test (ltb c found) (λ t. let l = ltb-true c found t in let m : min found c ≡ c = omega arith in m ∙ lowest_new (at k) (at (k + 1)) 96 c h next (omega (arith, is)))
+          (λ t. let l = ltb-false c found t in let m : min found c ≡ found = omega arith in m ∙ is ∙ lowest-old (at k) (at (k + 1)) 96 c h next (omega (arith, is)))
 
 -- ---- what the tests say
 

@@ -8,11 +8,12 @@ ghost use Rattle.arrays.specs.Slots.{SortsFit};
 ghost use Rattle.labelled.specs.Covers.{Covers, has_mask};
 ghost use Rattle.reasons.specs.Reasons.{LinesFit, broken_at, constant_class, empty_at, unlike, unlike_at, unlike_before};
 
-use slots::{label_at, wide};
+use slots::label_at;
 
 // ---- empty labels
 
 // Whether the label of a term is empty; a number type has no variants, and its label is not looked at.
+#[tactic(auto, unfolding(crate::specs::Reasons::empty_at))]
 pub fn is_empty(
     classes: &[u8; 96],
     labels: &[u16; 96],
@@ -28,7 +29,7 @@ pub fn is_empty(
     if label_at(classes, labels, x) != 0 {
         return false;
     }
-    full[wide(sorts[x])] != 0
+    full[sorts[x] as usize] != 0
 }
 
 // The lowest term of variant type with an empty label, of a list that leaves out none of them; 78 if there is none.
@@ -45,13 +46,11 @@ pub fn empty_label(
     requires covers { Covers (has_mask sorts.now full.now) 78 labelled.now count }
     ensures { result ≡ lowest (empty_at sorts.now full.now (state classes.now labels.now)) 78 }
 {
-    let mut i: usize = 0;
-    while i < count {
+    for i in 0..count {
         let x = labelled[i] as usize;
         if is_empty(classes, labels, sorts, full, x) {
             return x;
         }
-        i += 1;
     }
     78
 }
@@ -59,6 +58,7 @@ pub fn empty_label(
 // ---- unequal lines
 
 // Whether literal `j` is an unequal line whose two terms are equal.
+#[tactic(auto, unfolding(crate::specs::Reasons::broken_at))]
 pub fn is_broken(
     classes: &[u8; 96],
     kinds: &[u8; 64],
@@ -77,6 +77,7 @@ pub fn is_broken(
 }
 
 // The lowest unequal line whose two terms are equal; `many` if there is none.
+#[tactic(auto, using(loops::proofs::Loops::lowest_nowhere))]
 pub fn broken_line(
     classes: &[u8; 96],
     kinds: &[u8; 64],
@@ -88,12 +89,10 @@ pub fn broken_line(
     requires lines_fit_lem { LinesFit terms.now others.now }
     ensures { result ≡ lowest (broken_at kinds.now terms.now others.now classes.now) many }
 {
-    let mut j: usize = 0;
-    while j < many {
+    for j in 0..many {
         if is_broken(classes, kinds, terms, others, j) {
             return j;
         }
-        j += 1;
     }
     many
 }
@@ -104,9 +103,10 @@ fn constant_class(classes: &[u8; 96], k: usize) -> usize
     requires { k < 30 }
     ensures { result ≡ constant_class classes.now k }
 {
-    wide(classes::class_of(classes, constants::constant_term(k)))
+    classes::class_of(classes, constants::constant_term(k)) as usize
 }
 
+#[tactic(auto, unfolding(crate::specs::Reasons::unlike))]
 fn is_unlike(
     classes: &[u8; 96],
     constants: &[u8; 32],
@@ -127,6 +127,7 @@ fn is_unlike(
 }
 
 // Whether slot k has a constant, and an unlike one before it.
+#[tactic(auto, using(loops::proofs::Loops::any_nowhere), unfolding(crate::specs::Reasons::unlike_before))]
 fn is_unlike_before(classes: &[u8; 96], constants: &[u8; 32], values: &[i64; 24], k: usize) -> bool
     requires { k < 30 }
     ensures { result ≡ unlike_before constants.now values.now classes.now k }
@@ -134,12 +135,10 @@ fn is_unlike_before(classes: &[u8; 96], constants: &[u8; 32], values: &[i64; 24]
     if constants[k] == 0 {
         return false;
     }
-    let mut j: usize = 0;
-    while j < k {
+    for j in 0..k {
         if is_unlike(classes, constants, values, k, j) {
             return true;
         }
-        j += 1;
     }
     false
 }
@@ -150,15 +149,10 @@ pub fn unlike_constants(classes: &[u8; 96], constants: &[u8; 32], values: &[i64;
     ensures { result ≡ lowest (unlike_at constants.now values.now classes.now 30) 96 }
 {
     let mut found: usize = 96;
-    let mut k: usize = 0;
-    while k < 30 {
+    for k in 0..30 {
         if is_unlike_before(classes, constants, values, k) {
-            let c = constant_class(classes, k);
-            if c < found {
-                found = c;
-            }
+            found = found.min(constant_class(classes, k));
         }
-        k += 1;
     }
     found
 }

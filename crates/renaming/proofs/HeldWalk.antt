@@ -47,7 +47,6 @@ module _ {table : RowTable} {ts : Types} {rs : List Row} (holds : HoldsRows tabl
 
 -- the second's rows before i are gone over, and x is the first's next variable
 pub record Walking (first second : RowTable) (x next i : ℕ) (names skipped : List ℕ) (agree : Bool) : Type 0 where
-  pub passed : i ≤ second.many
   pub within : x ≤ first.many
   pub is : x < first.many → get_or first.kinds x 0 ≡ 0
   pub midway : (ts : Types) (rs ss : List Row) → HoldsRows first ts rs → HoldsRows second ts ss → Midway ts rs ss (variables_from x (drop x rs)) next i names skipped agree
@@ -62,7 +61,6 @@ module _ {first second : RowTable} where
   pub walk_begins : (x : ℕ) → NextVariable first.kinds first.many 0 x → Walking first second x first.many 0 (pad 24 []) (pad 24 []) true
   walk_begins x n =
       record {
-        passed = omega arith;
         within = n.within;
         is = n.is;
         midway = λ ts rs ss hf hs. subst (λ (k : ℕ). Midway ts rs ss (variables_from x (drop x rs)) k 0 (pad 24 []) (pad 24 []) true) (sym (many-are hf))
@@ -78,7 +76,6 @@ module _ {first second : RowTable} where
       pub walk_writes : (ltb x first.many && eqb (get_or second.kinds i 0) 0) ≡ false → Walking first second x (next + 1) (i + 1) (set names i next) skipped agree
       walk_writes e =
           record {
-            passed = omega arith;
             within = w.within;
             is = w.is;
             midway = λ ts rs ss hf hs. row_written ts rs ss hs.many (w.midway ts rs ss hf hs) (omega (arith, many-are hs))
@@ -89,7 +86,6 @@ module _ {first second : RowTable} where
           → Walking first second y next (i + 1) (set names i x) (set skipped i 1) (agree && eqb (get_or first.types x 0) (get_or second.types i 0))
       walk_takes e y n =
           record {
-            passed = omega arith;
             within = n.within;
             is = n.is;
             midway = λ ts rs ss hf hs.

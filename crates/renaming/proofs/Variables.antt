@@ -42,3 +42,5 @@ variables-small k i (variable t ∷ rs) h = more {x = i} (omega arith) (variable
 variables-small k i (constant t z ∷ rs) h = variables-small k (suc i) rs (omega arith)
 variables-small k i (built t v ps ∷ rs) h = variables-small k (suc i) rs (omega arith)
 variables-small k i (field t a v p ∷ rs) h = variables-small k (suc i) rs (omega arith)
+
+pub ruleset variables_on = (variables-past)

@@ -17,39 +17,32 @@ pub struct Names {
 }
 
 // The lowest variable from row `from` on, or `many`.
+#[tactic(auto, using(crate::proofs::Variables::variables_on))]
 fn next_variable(kinds: &[u8; 24], many: usize, from: usize) -> usize
     requires many_bound { many ≤ 24 }
     requires from_le_many { from ≤ many }
     ensures { NextVariable kinds.now many from result }
 {
-    let mut x = from;
-    while x < many {
+    for x in from..many {
         if kinds[x] == 0 {
             return x;
         }
-        x += 1;
     }
-    x
+    many
 }
 
 // Whether a row of this kind is taken as row `x` of `many`.
 fn is_taken(kind: u8, x: usize, many: usize) -> bool
     ensures { result ≡ (ltb x many && eqb kind 0) }
 {
-    if x < many {
-        return kind == 0;
-    }
-    false
+    x < many && kind == 0
 }
 
 // Whether variables still agree after two more, of these types.
 fn agree_too(agree: bool, a: u8, b: u8) -> bool
     ensures { result ≡ (agree && eqb a b) }
 {
-    if agree {
-        return a == b;
-    }
-    false
+    agree && a == b
 }
 
 // `x` is the first's next variable, `next` the number of the next row that is written.
@@ -63,8 +56,7 @@ pub fn names_of(first: RowTable, second: RowTable) -> Names
     let mut next = many;
     let mut agree = true;
     let mut x = next_variable(&first.kinds, many, 0);
-    let mut i: usize = 0;
-    while i < second.many {
+    for i in 0..second.many {
         if is_taken(second.kinds[i], x, many) {
             names[i] = x as u8;
             skipped[i] = 1;
@@ -74,12 +66,11 @@ pub fn names_of(first: RowTable, second: RowTable) -> Names
             names[i] = next as u8;
             next += 1;
         }
-        i += 1;
     }
     Names {
-        names: names,
-        skipped: skipped,
+        names,
+        skipped,
         rows: next,
-        agree: agree,
+        agree,
     }
 }

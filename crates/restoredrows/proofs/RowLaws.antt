@@ -1,12 +1,12 @@
 -- The numbers of a restored row, by the cells that hold its columns. Assumes nothing.
-use mathlib.Core.Path.{◌≡◌, refl, ap, ap₂, sym, ◌∙◌}
-use mathlib.Core.List.{List, [], ◌∷◌, map}
+use mathlib.Core.Path.{◌≡◌, ap, ap₂, sym, ◌∙◌}
+use mathlib.Core.List.{List, [], map}
 use Prim.Native.Nat.{ℕ, zero, suc, ◌+◌, ◌*◌, ◌≤◌, ◌<◌}
 use native.Mathlib.Nat.{zero-add}
 use native.Mathlib.Omega.{arith}
 use lib.ListN.{get_or, length, length-map, length-take}
 use lib.Seq.{ext_get_or, get_or-take}
-use Rattle.laws.specs.Lists.{concat_map, from}
+use Rattle.laws.specs.Lists.{from}
 use Rattle.laws.proofs.Lists.{map-from-at, map-from-length}
 use Rattle.guard.specs.Types.{Types, fields_of}
 use Rattle.tables.proofs.Lookups.{map_at}
@@ -49,8 +49,3 @@ module _ (ts : Types) (few : (t v : ℕ) → length (fields_of ts t v) ≤ 3) (c
       (λ j l.
       let inside : j < told = omega (arith, l, map-from-length (λ k. get_or cells (24 * k + i) 0) told 0) in
       map-from-at (λ k. get_or cells (24 * k + i) 0) told 0 j 0 inside ∙ ap (λ (k : ℕ). get_or cells (24 * k + i) 0) (zero-add j) ∙ sym (row_number j inside))
-
--- bytes, one by one
-pub each_byte : (bs : List ℕ) → concat_map (λ b. b ∷ []) bs ≡ bs
-each_byte [] = refl
-each_byte (b ∷ bs) = ap (λ (l : List ℕ). b ∷ l) (each_byte bs)

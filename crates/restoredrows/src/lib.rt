@@ -22,14 +22,12 @@ fn put_row(table: TypeTable, cells: &[u64; 144], i: usize, out: &mut [u8], at: u
     let third = cells[48 + i];
     let width = columnreader::width_of(table, kind, second, third) as usize;
     let mut end = End { fits: true, at };
-    let mut j: usize = 0;
-    while j < width {
+    for j in 0..width {
         if !end.fits {
             return end;
         }
         let n = cells[24 * j + i];
         end = numberwriter::put_number(out, end.at, n);
-        j += 1;
     }
     end
 }
@@ -42,13 +40,11 @@ pub fn put_rows(table: TypeTable, cells: &[u64; 144], n: usize, out: &mut [u8]) 
     ensures { PutsRows (types_of table) cells.now n out.old result out.new }
 {
     let mut end = bytebuffer::put_one(out, 0, n as u8);
-    let mut i: usize = 0;
-    while i < n {
+    for i in 0..n {
         if !end.fits {
             return end;
         }
         end = put_row(table, cells, i, out, end.at);
-        i += 1;
     }
     end
 }
@@ -58,15 +54,13 @@ pub fn put_bytes(bytes: &[u8], out: &mut [u8], at: usize) -> End
     requires { at ≤ length out.old }
     ensures { Puts bytes.now out.old at result out.new }
 {
-    let mut end = End { fits: true, at };
-    let mut i: usize = 0;
-    while i < bytes.len() {
-        if !end.fits {
-            return end;
-        }
-        let b = bytes[i];
-        end = bytebuffer::put_one(out, end.at, b);
-        i += 1;
+    if out.len() - at < bytes.len() {
+        return End { fits: false, at };
     }
-    end
+    let end = at + bytes.len();
+    out[at..end].copy_from_slice(bytes);
+    End {
+        fits: true,
+        at: end,
+    }
 }

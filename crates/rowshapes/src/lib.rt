@@ -7,6 +7,7 @@ ghost use Rattle.columns.specs.Entries.{written};
 ghost use Rattle.rowshapes.specs.RowShapes.{arity_of, eight_places, others_of, owner_of, part_place, row_part, row_place};
 
 // A shape, in the eight places from `at` on.
+#[tactic(auto, using(crate::proofs::ShapeLaws::eight_written))]
 pub fn write_shape(
     column: &mut [u16; 256],
     at: usize,
@@ -33,17 +34,18 @@ pub fn write_shape(
 }
 
 // From a column with three places to a row: what stands in place `j` of the shape of row `i`, from place 4 on.
+#[tactic(auto, unfolding(crate::specs::RowShapes::part_place))]
 fn part_place(column: &[u8], i: u16, j: u16) -> u16
     requires i_bound { i < 32 }
     requires j_bound { j < 8 }
     ensures { result ≡ part_place column.now i j }
 {
-    let k = columns::minus(3 * i + j, 4);
-    let part = columns::byte(column, k);
+    let part = columns::byte(column, (3 * i + j).saturating_sub(4));
     columns::choose(j < 7, part, 0)
 }
 
 // How many fields variant `v` of type `t` has.
+#[tactic(auto, unfolding(crate::specs::RowShapes::arity_of))]
 pub fn arity_of(first: &[u8], arities: &[u8], t: u16, v: u16) -> u16
     requires { v < 256 }
     ensures { result ≡ arity_of first.now arities.now t v }
@@ -53,6 +55,7 @@ pub fn arity_of(first: &[u8], arities: &[u8], t: u16, v: u16) -> u16
 }
 
 // The term that row `i` builds or reads.
+#[tactic(auto, unfolding(crate::specs::RowShapes::owner_of))]
 fn owner_of(kind: u16, parts: &[u8], i: u16) -> u16
     requires { i < 32 }
     ensures { result ≡ owner_of kind parts.now i }
@@ -62,6 +65,7 @@ fn owner_of(kind: u16, parts: &[u8], i: u16) -> u16
 }
 
 // The variants that must have gone before a row counts as built.
+#[tactic(auto, unfolding(crate::specs::RowShapes::others_of))]
 fn others_of(kind: u16, v: u16) -> u16
     ensures { result ≡ others_of kind v }
 {
@@ -69,6 +73,7 @@ fn others_of(kind: u16, v: u16) -> u16
     columns::choose(kind == 3, others, 0)
 }
 
+#[tactic(auto, unfolding(crate::specs::RowShapes::row_part))]
 fn row_part(kind: u16, parts: &[u8], fields: &[u8], i: u16, j: u16) -> u16
     requires i_bound { i < 32 }
     requires j_bound { j < 8 }
@@ -80,6 +85,7 @@ fn row_part(kind: u16, parts: &[u8], fields: &[u8], i: u16, j: u16) -> u16
 }
 
 // The shape of row `i`, a built one or a field read, in its eight places.
+#[tactic(auto, using(crate::proofs::ShapeLaws::row_written))]
 pub fn write_row(
     column: &mut [u16; 256],
     kinds: &[u8],

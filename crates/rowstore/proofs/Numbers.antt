@@ -7,8 +7,8 @@ use native.Mathlib.Numerals.{add-one}
 use native.Mathlib.Omega.{arith}
 use lib.Dec.{eqb, leb, ltb}
 use lib.IntN.{ℤ, pos}
-use lib.ListN.{length, get_or, take, drop, set}
-use lib.Seq.{drop-cons, sets}
+use lib.ListN.{length, get_or, take, drop}
+use lib.Seq.{drop-cons}
 use mir.Syntax.{w32}
 use mir.Val.{SFits, of_z, to_z}
 use mir.Facts.{to_z-of_z}
@@ -91,10 +91,6 @@ module _ (rows : List ℤ) (at : ℕ) (room : at + 4 ≤ length rows) where
         and-true : (t : Bool) → (t && true) ≡ t
         and-true true = refl
         and-true false = refl
-
--- four stores, one after the other
-pub four_sets : (rows : List ℤ) (at : ℕ) (tag a b c : ℤ) → set (set (set (set rows at tag) (at + 1) a) (at + 2) b) (at + 3) c ≡ sets rows at (tag ∷ a ∷ b ∷ c ∷ [])
-four_sets rows at tag a b c = rw (add-one at, add-two at, add-three at) refl
 
 -- ---- the search
 

@@ -96,10 +96,6 @@ module _ (ts : Types) (rows : List ℤ) (n : ℕ) (rows' : List ℤ) (n' : ℕ) 
   pub grown-decode : decode ts rows' n ≡ decode ts rows n
   grown-decode = decode-rows rows' rows ts n g.kept
 
-  -- the messages before are the first of those now
-  pub grown_prefix : take n (decode ts rows' n') ≡ decode ts rows n
-  grown_prefix = decode-take ts rows' n n' g.more ∙ grown-decode
-
   pub grown-message : (i : ℕ) → i < n → message_at ts rows' n' i ≡ message_at ts rows n i
   grown-message i h = sym (decode-longer ts rows' i n n' h g.more) ∙ ap (λ (ms : List Message). get_or ms i no_message) grown-decode
 

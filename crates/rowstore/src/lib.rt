@@ -30,12 +30,10 @@ fn find_row(rows: &[i32], start: usize, many: usize, tag: i32, a: i32, b: i32, c
     requires { 4 * many ≤ length rows.now }
     ensures { result ≡ row_found rows.now start many (tag ∷ a ∷ b ∷ c ∷ []) }
 {
-    let mut i = start;
-    while i < many {
+    for i in start..many {
         if is_row(rows, 4 * i, tag, a, b, c) {
             return i;
         }
-        i += 1;
     }
     many
 }

@@ -1,6 +1,6 @@
 -- The bytes of a row, one behind the other. Assumes nothing.
 use mathlib.Core.Path.{◌≡◌, refl, ap, ap₂, sym, ◌∙◌}
-use mathlib.Core.Bool.{true, false}
+use mathlib.Core.Bool.{true}
 use mathlib.Core.List.{List, [], ◌∷◌, ◌++◌, append_assoc, map}
 use Prim.Native.Nat.{ℕ, suc, ◌<◌}
 use native.Mathlib.Omega.{arith}
@@ -13,7 +13,7 @@ use Rattle.encoding.proofs.ReadBack.{one_byte}
 use Rattle.merged.specs.Merge.{named}
 use Rattle.bytebuffer.specs.declared.End.{End}
 use Rattle.bytebuffer.specs.Puts.{Puts}
-use Rattle.bytebuffer.proofs.PutLaws.{and_then, same_bytes_lem, still_full}
+use Rattle.bytebuffer.proofs.PutLaws.{and_then, same_bytes_lem}
 use Rattle.rowterms.specs.Rows.{row_bytes, up_to}
 use Rattle.rowterms.proofs.LoopLaws.{from_front}
 
@@ -40,15 +40,9 @@ module _ (names : List ℕ) (a v p : ℕ) (vs : v < 128) (ps : p < 128) where
   two-last = ap (λ (l : List ℕ). encoded 3 ++ (encoded (named names a) ++ l)) (two_bytes v p vs ps [])
 
   module _ {out out' : List ℕ} {at : ℕ} {end : End} (first : Puts (encoded 3) out at end out') where
-    pub kind_full : end.fits ≡ false → Puts (row_bytes names (field 0 a v p)) out at end out'
-    kind_full e = same_bytes_lem (still_full first e (encoded (named names a) ++ (v ∷ p ∷ []))) two-last
-
     module _ (e : end.fits ≡ true) {end' : End} {out'' : List ℕ} (second : Puts (encoded (named names a)) out' end.at end' out'') where
       two_behind : (encoded 3 ++ encoded (named names a)) ++ (v ∷ p ∷ []) ≡ row_bytes names (field 0 a v p)
       two_behind = append_assoc (encoded 3) (encoded (named names a)) (v ∷ p ∷ []) ∙ two-last
-
-      pub term_full : end'.fits ≡ false → Puts (row_bytes names (field 0 a v p)) out at end' out''
-      term_full q = same_bytes_lem (still_full (and_then first e second) q (v ∷ p ∷ [])) two_behind
 
       pub field_put : end'.fits ≡ true → {last : End} {out''' : List ℕ} → Puts (v ∷ p ∷ []) out'' end'.at last out''' → Puts (row_bytes names (field 0 a v p)) out at last out'''
       field_put q w = same_bytes_lem (and_then (and_then first e second) q w) two_behind

@@ -32,8 +32,7 @@ fn put_parts(
     ensures { Puts (up_to (part_bytes names.now rows r) many) out.old at result out.new }
 {
     let mut next = at;
-    let mut i: usize = 0;
-    while i < many {
+    for i in 0..many {
         let part = rows.parts[3 * r + i] as usize;
         let name = names[part];
         let end = put_small(out, next, name);
@@ -41,7 +40,6 @@ fn put_parts(
             return end;
         }
         next = end.at;
-        i += 1;
     }
     End {
         fits: true,

@@ -36,10 +36,8 @@ fn put_parts(out: &mut [u8], at: usize, rows: &[i32], j: usize, many: usize) -> 
         return at;
     }
     let mut next = writing::put_bytes(out, at, b" parts");
-    let mut p: usize = 0;
-    while p < many {
+    for p in 0..many {
         next = writing::put_number_at(out, next, rows, j + p);
-        p += 1;
     }
     next
 }
@@ -118,12 +116,8 @@ pub fn put_rows(out: &mut [u8], at: usize, types: TypeTable, rows: &[i32], many:
     ensures { Written (96 * many) out.old at (concat_map (row_line (arity_in types) rows.now) (from many 0)) out.new result }
 {
     let mut next = at;
-    let mut i: u32 = 0;
-    while i < many {
+    for i in 0..many {
         next = put_row(out, next, types, rows, i);
-        i += 1;
     }
     next
 }
-
-// ---- terms

@@ -22,20 +22,19 @@ use Rattle.rowwriter.proofs.KeptLaws.{bytes_at, kept-bytes, put_at_lem, skipped_
 module _ (types : TypeTable) (rows : RowTable) (names skipped out : List ℕ) (at : ℕ) where
   -- for all types and rows that the tables may hold
   pub record Midway (r next : ℕ) (out' : List ℕ) : Type 0 where
-    pub inside : r ≤ rows.many
     pub long : length out' ≡ length out
     pub room : next ≤ length out'
     pub puts : (ts : Types) (rs : List Row) → HoldsTypes types ts → HoldsRows rows ts rs → Puts (up_to (bytes_at names skipped rs) r) out at (record { fits = true; at = next }) out'
 
   pub begin : at ≤ length out → Midway 0 at out
-  begin h = record { inside = omega arith; long = omega arith; room = h; puts = λ ts rs t s. nothing h }
+  begin h = record { long = omega arith; room = h; puts = λ ts rs t s. nothing h }
 
 module _ {types : TypeTable} {rows : RowTable} {names skipped out : List ℕ} {at r next : ℕ} {out' : List ℕ} (m : Midway types rows names skipped out at r next out') where
   -- all rows are written
-  pub finish : rows.many ≤ r → PutsRows types rows names skipped out at (record { fits = true; at = next }) out'
+  pub finish : r ≡ rows.many → PutsRows types rows names skipped out at (record { fits = true; at = next }) out'
   finish h =
       record {
-        puts = λ ts rs t s. same_bytes_lem (m.puts ts rs t s) (ap (up_to (bytes_at names skipped rs)) (let e : r ≡ length rs = omega (arith, m.inside, row_count s) in e) ∙ kept-bytes names skipped rs);
+        puts = λ ts rs t s. same_bytes_lem (m.puts ts rs t s) (ap (up_to (bytes_at names skipped rs)) (let e : r ≡ length rs = omega (arith, row_count s) in e) ∙ kept-bytes names skipped rs);
       }
 
   pub same-long : SomeRows types rows → {end : End} {out'' : List ℕ} → PutsRow types rows names r out' next end out'' → length out'' ≡ length out
@@ -46,7 +45,6 @@ module _ {types : TypeTable} {rows : RowTable} {names skipped out : List ℕ} {a
     pub pass : ¬ (get_or skipped r 0 ≡ 0) → Midway types rows names skipped out at (r + 1) next out'
     pass k =
         record {
-          inside = omega arith;
           long = m.long;
           room = m.room;
           puts = λ ts rs t s. skip_puts (bytes_at names skipped rs) r (m.puts ts rs t s) (skipped_at names skipped rs r k);
@@ -60,7 +58,6 @@ module _ {types : TypeTable} {rows : RowTable} {names skipped out : List ℕ} {a
       pub further : SomeRows types rows → end.fits ≡ true → Midway types rows names skipped out at (r + 1) end.at out''
       further b e =
           record {
-            inside = omega arith;
             long = same-long b p;
             room = ends-within (p.puts b.ts b.rs b.holds-types b.holds_rows) e;
             puts = λ ts rs t s. next-puts (bytes_at names skipped rs) r (m.puts ts rs t s) (row_put ts rs t s) e;

@@ -70,8 +70,7 @@ pub fn put_rows(
     ensures { PutsRows types rows names.now skipped.now out.old at result out.new }
 {
     let mut next = at;
-    let mut r: usize = 0;
-    while r < rows.many {
+    for r in 0..rows.many {
         if skipped[r] == 0 {
             let end = put_row(types, rows, names, r, out, next);
             if !end.fits {
@@ -79,7 +78,6 @@ pub fn put_rows(
             }
             next = end.at;
         }
-        r += 1;
     }
     End {
         fits: true,

@@ -1,6 +1,6 @@
 -- Lists of bytes, compared; and codes that say themselves where they end. Assumes nothing.
 use mathlib.Core.Path.{◌≡◌, refl, ap, ap₂, sym, ◌∙◌}
-use mathlib.Core.Bool.{true, false, false≢true}
+use mathlib.Core.Bool.{true, false≢true}
 use mathlib.Core.List.{List, [], ◌∷◌, ◌++◌, append_assoc}
 use Prim.Native.Nat.{ℕ, ◌≤◌}
 use native.Mathlib.Omega.{arith}
@@ -9,7 +9,7 @@ use lib.ListN.{length}
 use borrow.Author.Tests.{eq-eqb, eqb-true}
 use Rattle.laws.specs.All.{All, All.more, All.none}
 use Rattle.laws.specs.Lists.{concat_map}
-use Rattle.laws.proofs.Bools.{and_both, and_left, and_right, by_test}
+use Rattle.laws.proofs.Bools.{and_both, and_left, and_right}
 use Rattle.guard.specs.Number.{Parsed.accepted, unsigned}
 use Rattle.encoding.specs.Encoding.{encoded}
 use Rattle.encoding.proofs.ReadBack.{read_back}
@@ -27,9 +27,6 @@ same-bytes-is (x ∷ xs) (y ∷ ys) e = ap₂ (λ (z : ℕ) (zs : List ℕ). z �
 
 pub same-yes : {xs ys : List ℕ} → xs ≡ ys → true ≡ same_bytes xs ys
 same-yes {xs} e = sym (same-bytes_refl xs) ∙ ap (same_bytes xs) e
-
-pub same-no : (xs ys : List ℕ) → ¬ (xs ≡ ys) → false ≡ same_bytes xs ys
-same-no xs ys n = by_test (same_bytes xs ys) (λ e. absurd (n (same-bytes-is xs ys e))) (λ e. sym e)
 
 -- ---- codes
 

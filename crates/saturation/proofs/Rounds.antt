@@ -1,5 +1,5 @@
 -- The families one after the other, until one changes something; and such rounds until none does. Assumes nothing.
-use mathlib.Core.Path.{◌≡◌, refl, sym, ◌∙◌, subst}
+use mathlib.Core.Path.{◌≡◌, refl, sym, subst}
 use mathlib.Core.Bool.{Bool, true, false, false≢true}
 use mathlib.Core.List.Memᴰ
 use mathlib.Core.List.{List, ◌++◌}
@@ -7,6 +7,7 @@ use Prim.Native.Nat.{ℕ, ◌<◌}
 use native.Mathlib.Omega.{arith}
 use lib.Dec.{eqb}
 use borrow.Author.Tests.{eqb-false, eqb-true}
+use Rattle.std.specs.Int.{from_bool}
 use Rattle.laws.specs.All.{All}
 use Rattle.laws.proofs.Bools.{by_test}
 use Rattle.guard.specs.Closure.{State, holds, size}
@@ -15,7 +16,7 @@ use Rattle.passes.proofs.PassLaws.{second-tells, steps-more, steps_on}
 use Rattle.congruence.specs.Due.{shapes_due}
 use Rattle.reads.specs.Due.{defaults_due, reads_due}
 use Rattle.singles.specs.Due.{PassOrStop, singles_due}
-use Rattle.singles.proofs.StopLaws.{changed_pass, quiet_pass}
+use Rattle.singles.proofs.StopLaws.{changed_pass, told_pass}
 use Rattle.loops.specs.Lowest.{lowest}
 use Rattle.reasons.specs.Reasons.{empty_at}
 use Rattle.saturation.specs.Due.{Settled, all_due}
@@ -64,16 +65,9 @@ module _ (shapes reads sorts fieldless : List ℕ) where
       unfolding all_due
       by-shapes e = changed_pass sorts full stop true (changed_first (reads_due reads) e all_three) refl
 
-      module _ {s₄ : State} (d : Bool) (none'' : c ≡ false) (u : Pass (reads_due reads) s₃ s₄ d) where
-        all_four : Pass (all_due shapes reads sorts fieldless) s s₄ d
-        unfolding all_due
-        all_four = second-tells c d all_three u none''
-
-        pub by-reads : d ≡ true → PassOrStop (all_due shapes reads sorts fieldless) sorts full stop s s₄ 1
-        by-reads e = changed_pass sorts full stop d all_four e
-
-        pub by-none : d ≡ false → PassOrStop (all_due shapes reads sorts fieldless) sorts full stop s s₄ 0
-        by-none e = quiet_pass sorts full stop d all_four e
+      pub by_reads : {s₄ : State} (d : Bool) → c ≡ false → Pass (reads_due reads) s₃ s₄ d → PassOrStop (all_due shapes reads sorts fieldless) sorts full stop s s₄ (from_bool d)
+      unfolding all_due
+      by_reads d none'' u = told_pass sorts full stop d (second-tells c d all_three u none'')
 
 -- ---- rounds
 
@@ -86,13 +80,7 @@ module _ {due : Due} (sorts full : List ℕ) (stop : Bool) {s s' s'' : State} (r
       let (same-state, held) = q.quiet e in
       record { steps = steps_then; quiet = subst (λ (z : State). All (λ f. holds z f ≡ true) (due z)) (sym same-state) held }
 
-  -- a pass that was not to stop has changed nothing if it isn't to be repeated
-  pub ended : stop ≡ false → ¬ (r ≡ 1) → Saturated due s s''
-  ended off n =
-      by_test (eqb r 0) (λ b. last_round (eqb-true r 0 b))
-      (λ b. let two : r ≡ 2 = omega (arith, q.code, n, eqb-false r 0 b) in absurd (false≢true (sym off ∙ (q.stopped two).0)))
-
--- ... and one that was to stop has, or met an empty label
+-- a pass that was to stop, and isn't to be repeated, has changed nothing or met an empty label
 pub settled : (shapes reads sorts full fieldless : List ℕ) {s s' s'' : State} (r : ℕ) → Steps (all_due shapes reads sorts fieldless) s s'
     → PassOrStop (all_due shapes reads sorts fieldless) sorts full true s' s'' r → ¬ (r ≡ 1) → Settled shapes reads sorts full fieldless s s''
 settled shapes reads sorts full fieldless r p q n =

@@ -40,10 +40,7 @@ fn advance(
     if keys::pass_shapes(classes, labels, shapes) {
         return 1;
     }
-    if reads::pass_reads(classes, labels, reads) {
-        return 1;
-    }
-    0
+    u8::from(reads::pass_reads(classes, labels, reads))
 }
 
 // Adds what the rules give until nothing is new, or an empty label is met: that closes the node, whatever else the rules give.

@@ -7,17 +7,17 @@ use native.Mathlib.Omega.{arith}
 use lib.Dec.{ltb}
 use lib.ListN.{get_or}
 use borrow.Author.Tests.{lt-ltb, le-ltb, eq-eqb, ne_eqb}
-use Rattle.columns.proofs.Filled.{filled_skips, filled-written, written_same}
+use Rattle.columns.proofs.Filled.{filled_end, filled_none, filled_skips, filled-written, written_same}
 use Rattle.columns.specs.Entries.{filled, written}
 use Rattle.rowshapes.proofs.ShapeLaws.{shape_places}
 use Rattle.rowshapes.specs.RowShapes.{arity_of, eight_places, kind_number, row_place, shape_place}
 use Rattle.shapecolumn.specs.Shapes.{default_part, default_place, made_place, shape_entry}
 
 -- a made default, by what the code has computed
-pub default-written : (defaults first arities sorts column : List ℕ) (at t v many a b c d : ℕ) → v ≡ get_or defaults t 0 → many ≡ arity_of first arities t v
+pub default_written : (defaults first arities sorts column : List ℕ) (at t v many a b c d : ℕ) → v ≡ get_or defaults t 0 → many ≡ arity_of first arities t v
     → a ≡ default_part first arities sorts t v 4 → b ≡ default_part first arities sorts t v 5 → c ≡ default_part first arities sorts t v 6 → d ≡ default_part first arities sorts t v 7
     → written 8 column at (eight_places (72 + t) (kind_number t v) 0 many a b c d) ≡ written 8 column at (made_place defaults first arities sorts t)
-default-written defaults first arities sorts column at t v many a b c d e m p q r z =
+default_written defaults first arities sorts column at t v many a b c d e m p q r z =
     written_same 8 at column _ _ (λ j l. shape_places (72 + t) t v 0 many (default_part first arities sorts t v) a b c d p q r z j l ∙ made j)
   where
     made : (j : ℕ) → shape_place (72 + t) t v 0 many (default_part first arities sorts t v j) j ≡ made_place defaults first arities sorts t j
@@ -66,8 +66,8 @@ module _ (kinds types variants parts fields counts defaults first arities sorts 
         let q : 8 * i + 8 ≡ 8 * (i + 1) = omega arith in
         filled_skips 256 entry 8 (8 * i) column (omega arith) (λ j l. row-entry i j h l ∙ no_row i j k) e ∙ ap (filled 256 entry) q
 
-    pub row-stored : (i : ℕ) (new : List ℕ) → i < 24 → column ≡ filled 256 entry (8 * i) → new ≡ written 8 column (8 * i) (row_place kinds types variants parts fields first arities i) → new ≡ filled 256 entry (8 * (i + 1))
-    row-stored i new h e w =
+    pub row_stored : (i : ℕ) (new : List ℕ) → i < 24 → column ≡ filled 256 entry (8 * i) → new ≡ written 8 column (8 * i) (row_place kinds types variants parts fields first arities i) → new ≡ filled 256 entry (8 * (i + 1))
+    row_stored i new h e w =
         let q : 8 * i + 8 ≡ 8 * (i + 1) = omega arith in
         w ∙ filled-written 256 entry 8 (8 * i) column (row_place kinds types variants parts fields first arities i) (omega arith) (λ j l. sym (row-entry i j h l)) e ∙ ap (filled 256 entry) q
 
@@ -76,7 +76,10 @@ module _ (kinds types variants parts fields counts defaults first arities sorts 
         let q : 192 + 8 * t + 8 ≡ 192 + 8 * (t + 1) = omega arith in
         filled_skips 256 entry 8 (192 + 8 * t) column (omega arith) (λ j l. default-entry t j l ∙ no_default t j k) e ∙ ap (filled 256 entry) q
 
-    pub default-stored : (t : ℕ) (new : List ℕ) → t < 8 → 0 < get_or counts t 0 → column ≡ filled 256 entry (192 + 8 * t) → new ≡ written 8 column (192 + 8 * t) (made_place defaults first arities sorts t) → new ≡ filled 256 entry (192 + 8 * (t + 1))
-    default-stored t new h k e w =
+    pub default_stored : (t : ℕ) (new : List ℕ) → t < 8 → 0 < get_or counts t 0 → column ≡ filled 256 entry (192 + 8 * t) → new ≡ written 8 column (192 + 8 * t) (made_place defaults first arities sorts t) → new ≡ filled 256 entry (192 + 8 * (t + 1))
+    default_stored t new h k e w =
         let q : 192 + 8 * t + 8 ≡ 192 + 8 * (t + 1) = omega arith in
         w ∙ filled-written 256 entry 8 (192 + 8 * t) column (made_place defaults first arities sorts t) (omega arith) (λ j l. a_default t j k ∙ sym (default-entry t j l)) e ∙ ap (filled 256 entry) q
+
+-- what a loop over the slots needs
+pub ruleset slots_filled = (filled_none, row_stored, row_skipped, default_stored, default_skipped, filled_end)

@@ -7,12 +7,13 @@ ghost use Rattle.shapecolumn.specs.Shapes.{default_part, made_place, shape_entry
 ghost use Rattle.columns.specs.Entries.{filled, written};
 
 // What stands in place `j` of the shape of a default of type `t` and variant `v`, from place 4 on.
+#[tactic(auto, unfolding(crate::specs::Shapes::default_part))]
 fn default_part(first: &[u8], arities: &[u8], sorts: &[u8], t: u16, v: u16, j: u16) -> u16
     requires v_bound { v < 256 }
     requires j_bound { j < 8 }
     ensures { result ≡ default_part first.now arities.now sorts.now t v j }
 {
-    let q = columns::minus(j, 4);
+    let q = j.saturating_sub(4);
     let many = rowshapes::arity_of(first, arities, t, v);
     let start = columns::byte(first, t);
     let sort = columns::byte(sorts, 3 * (start + v) + q);
@@ -20,6 +21,7 @@ fn default_part(first: &[u8], arities: &[u8], sorts: &[u8], t: u16, v: u16, j: u
 }
 
 // The shape of the default of type `t`, which has variants, in its eight places.
+#[tactic(auto, using(crate::proofs::SlotLaws::default_written))]
 fn write_default(
     column: &mut [u16; 256],
     defaults: &[u8],
@@ -42,6 +44,7 @@ fn write_default(
 }
 
 // Only slots that hold a shape are written.
+#[tactic(auto, using(crate::proofs::SlotLaws::slots_filled))]
 pub fn shape_entries(
     kinds: &[u8; 24],
     types: &[u8; 24],
@@ -57,8 +60,7 @@ pub fn shape_entries(
     ensures { result ≡ filled 256 (shape_entry kinds.now types.now variants.now parts.now fields.now counts.now defaults.now first.now arities.now sorts.now) 256 }
 {
     let mut column = [0u16; 256];
-    let mut i: u16 = 0;
-    while i < 24 {
+    for i in 0..24 {
         if columns::byte(kinds, i) > 1 {
             rowshapes::write_row(
                 &mut column,
@@ -72,14 +74,11 @@ pub fn shape_entries(
                 i,
             );
         }
-        i += 1;
     }
-    let mut t: u16 = 0;
-    while t < 8 {
+    for t in 0..8 {
         if columns::byte(counts, t) > 0 {
             write_default(&mut column, defaults, first, arities, sorts, t);
         }
-        t += 1;
     }
     column
 }

@@ -13,14 +13,13 @@ use Rattle.laws.specs.Lists.{from}
 use Rattle.laws.proofs.Bools.{by_test}
 use Rattle.laws.proofs.Lists.{map-length}
 use Rattle.guard.specs.Guard.{Guard, Row, Row.built, Row.constant, Row.field, Row.variable, no_row, row_at, type_at}
-use Rattle.guard.specs.Limits.{Limits, Supported, field_limit, total_variant_limit}
+use Rattle.guard.specs.Limits.{Limits, Supported, total_variant_limit}
 use Rattle.guard.specs.Terms.{from_rows}
 use Rattle.guard.specs.Types.{Types, fields_of}
 use Rattle.guard.specs.WellFormed.{RowFits, WellFormed}
-use Rattle.tables.specs.Layout.{TypesInRange, flat, pad, row_kind, row_parts, row_table, row_variant, type_table}
+use Rattle.tables.specs.Layout.{flat, pad, row_kind, row_parts, row_table, row_variant, type_table}
 use Rattle.tables.proofs.Columns.{pad_get}
 use Rattle.tables.proofs.Lookups.{arity-at, first-at, flat-all, offset_inside, offset_of, row-kind-at, row-part-at, row-type_anywhere, row-variant-at, sort-at}
-use Rattle.tables.proofs.TypesBack.{table_in_range}
 use Rattle.fieldterms.specs.FieldTerms.{ReadsInRange, field_term_at, place_at, sibling_position}
 use Rattle.fieldterms.proofs.FieldTermLaws.{position-small}
 use Rattle.siblings.specs.Siblings.{field_entries, field_entry, row_fields, row_sorts, siblings_by, siblings_in, sort_entries, sort_entry}
@@ -154,11 +153,6 @@ module _ (limits : Limits) (supported : Supported limits) (g : Guard) (ok : Well
         type = λ i h k. of_reads (λ i. get_or types (get_or parts (3 * i) 0) 0 < 6) (λ i l t a v p e. omega (arith, type-is i l t a v p e, type-inside i l t a v p e, ok.type_count, supported.types)) i (omega (arith, row-many ts rs)) k;
         place = λ i h k. of_reads (λ i. place_at types variants parts first i < 48) place-small i (omega (arith, row-many ts rs)) k;
       }
-
-  pub types_in-range : TypesInRange (type_table ts)
-  types_in-range =
-      table_in_range ts (omega (arith, ok.type_count, supported.types)) ok.variant_counts total
-      (flat-all (λ fs. (length fs ≤ field_limit) × All (λ f. f < length ts) fs) ts (λ t v. (ok.field_counts t v, ok.field_types t v)))
 
   -- ---- the columns are those of the guard
 

@@ -17,6 +17,7 @@ pub struct Siblings {
 }
 
 // The entry of row `i` at position `q` in the column of fields.
+#[tactic(auto, unfolding(crate::specs::Siblings::field_entry))]
 fn field_entry(
     many: usize,
     kinds: &[u8; 24],
@@ -44,6 +45,7 @@ fn field_entry(
 }
 
 // The entry of row `i` for sibling `k` in the column of types.
+#[tactic(auto, using(crate::proofs::EntryLaws::position), unfolding(crate::specs::Siblings::sort_entry))]
 fn sort_entry(
     many: usize,
     kinds: &[u8; 24],
@@ -74,6 +76,7 @@ fn sort_entry(
 }
 
 // The column of fields, place by place: three to a row.
+#[tactic(auto, using(crate::proofs::EntryLaws::fields))]
 fn field_entries(
     many: usize,
     kinds: &[u8; 24],
@@ -87,8 +90,7 @@ fn field_entries(
     ensures { result ≡ field_entries kinds.now types.now variants.now parts.now first.now arities.now (3 * many) }
 {
     let mut column = [0u8; 72];
-    let mut x: usize = 0;
-    while x < 3 * many {
+    for x in 0..3 * many {
         column[x] = field_entry(
             many,
             kinds,
@@ -100,12 +102,12 @@ fn field_entries(
             x / 3,
             x % 3,
         );
-        x += 1;
     }
     column
 }
 
 // The column of types, place by place: two to a row.
+#[tactic(auto, using(crate::proofs::EntryLaws::sorts))]
 fn sort_entries(
     many: usize,
     kinds: &[u8; 24],
@@ -121,8 +123,7 @@ fn sort_entries(
     ensures { result ≡ sort_entries kinds.now types.now variants.now parts.now first.now arities.now sorts.now (2 * many) }
 {
     let mut column = [0u8; 48];
-    let mut x: usize = 0;
-    while x < 2 * many {
+    for x in 0..2 * many {
         column[x] = sort_entry(
             many,
             kinds,
@@ -135,12 +136,12 @@ fn sort_entries(
             x / 2,
             x % 2,
         );
-        x += 1;
     }
     column
 }
 
 // The sibling fields of an accepted guard, from its tables.
+#[tactic(auto, using(crate::proofs::EntryLaws::sorts_in_range), unfolding(crate::specs::Siblings::siblings_by))]
 pub fn sibling_fields(table: TypeTable, rows: RowTable) -> Siblings
     requires types_in_range { TypesInRange table }
     requires reads_in_range { ReadsInRange rows.many rows.kinds rows.types rows.variants rows.parts table.first }
@@ -159,7 +160,7 @@ pub fn sibling_fields(table: TypeTable, rows: RowTable) -> Siblings
         many, &kinds, &types, &variants, &parts, &first, &arities, &sorts,
     );
     Siblings {
-        fields: fields,
+        fields,
         sorts: siblings,
     }
 }

@@ -24,7 +24,6 @@ use Rattle.passes.proofs.PassLaws.{steps_le}
 use Rattle.arrays.specs.Slots.{fieldless_at, only_is, sort_at}
 use Rattle.arrays.proofs.DueLaws.{mem_when}
 use Rattle.labelled.specs.Covers.{has_mask}
-use Rattle.reasons.specs.Reasons.{empty_at}
 use Rattle.singles.specs.Due.{single_due, singles_due, singles_for, singles_of}
 use Rattle.singles.specs.Entered.{Advance, AllSeen, Before, Entered, NeverAlone, SeenFit, TermOrStop, place_of, seen_at, unseen}
 
@@ -68,9 +67,6 @@ or_none_lem false = refl
 
 module _ (sorts fieldless : List ℕ) (s : State) (seen : List ℕ) (x v : ℕ) where
   -- ---- the table
-
-  pub fit_next : SeenFit sorts seen x v → SeenFit sorts seen x (v + 1)
-  fit_next f = record { long = f.long; at = λ w n. (before-next x v (seen_at seen w) (w % 16) (f.at w n).0, (f.at w n).1) }
 
   -- what stands at the place of a term's variant is an earlier term of the same type
   pub seen_earlier : v < 16 → SeenFit sorts seen x v → ¬ (seen_at seen (place_of sorts x v) ≡ unseen)
@@ -271,12 +267,9 @@ module _ (sorts fieldless : List ℕ) (s : State) (seen : List ℕ) (x v : ℕ) 
 
 -- ---- a term at all its variants
 
-remembered : (a b c d : Bool) → ((b ≡ true) × (c ≡ true)) ⊎ ((b ≡ false) × (c ≡ a)) → ((d || a) || b) ≡ (d || c)
-remembered a b c true w = refl
-remembered true b c false (inl (e, h)) = sym h
-remembered false b c false (inl (e, h)) = e ∙ sym h
-remembered true b c false (inr (e, h)) = sym h
-remembered false b c false (inr (e, h)) = e ∙ sym h
+or_regrouped : (a b c : Bool) → ((a || b) || c) ≡ (a || (b || c))
+or_regrouped true b c = refl
+or_regrouped false b c = refl
 
 module _ (sorts fieldless : List ℕ) (s : State) (seen : List ℕ) (x : ℕ) where
   -- up to the first variant that may be its own
@@ -297,15 +290,12 @@ module _ (sorts fieldless : List ℕ) (s : State) (seen : List ℕ) (x : ℕ) wh
       earlier q y u (inr (e, h)) o =
           absurd (false≢true (sym (gone u h) ∙ ap (λ (z : State). only_is sorts fieldless z x u) q ∙ ap (λ (k : ℕ). only_is sorts fieldless first k u) (sym e) ∙ o))
 
-  pub fit-begin : (v : ℕ) → SeenFit sorts seen x 0 → SeenFit sorts seen x v
-  fit-begin v f = record { long = f.long; at = λ w n. (⊎_elim (λ h. inl h) (λ p. absurd (omega (arith, p.1))) (f.at w n).0, (f.at w n).1) }
-
   -- one variant more
-  pub next_variant : (v : ℕ) (s' s'' : State) (seen' seen'' : List ℕ) (a b c : Bool) → Advance sorts fieldless s seen x 0 s' seen' x v a
-      → Advance sorts fieldless s' seen' x v s'' seen'' x (v + 1) b → ((b ≡ true) × (c ≡ true)) ⊎ ((b ≡ false) × (c ≡ a)) → Advance sorts fieldless s seen x 0 s'' seen'' x (v + 1) c
+  pub next_variant : (v : ℕ) (s' s'' : State) (seen' seen'' : List ℕ) (a b : Bool) → Advance sorts fieldless s seen x 0 s' seen' x v a
+      → Advance sorts fieldless s' seen' x v s'' seen'' x (v + 1) b → Advance sorts fieldless s seen x 0 s'' seen'' x (v + 1) (a || b)
   unfolding Advance
-  next_variant v s' s'' seen' seen'' a b c p q w first changed e =
-      subst (Entered sorts fieldless first s'' seen'' x (v + 1)) (remembered a b c changed w) (q first (changed || a) (p first changed e))
+  next_variant v s' s'' seen' seen'' a b p q first changed e =
+      subst (Entered sorts fieldless first s'' seen'' x (v + 1)) (or_regrouped changed a b) (q first (changed || a) (p first changed e))
 
   -- no further variant is its own
   pub end_term : (v : ℕ) (s' : State) (seen' : List ℕ) (r : Bool) → ((u : ℕ) → v ≤ u → u < variant_limit → only_is sorts fieldless s x u ≡ false)
@@ -329,13 +319,6 @@ module _ (sorts fieldless : List ℕ) (s : State) (seen : List ℕ) (x : ℕ) wh
           at e = by_test (ltb u v) (λ t. inr (e, ltb-true u v t))
               (λ t. absurd (false≢true (sym (gone u (omega (arith, ltb-false u v t)) hu) ∙ ap (λ (z : State). only_is sorts fieldless z x u) q ∙ ap (λ (k : ℕ). only_is sorts fieldless first k u) (sym e) ∙ o)))
 
-  pub fit_end : (v : ℕ) → SeenFit sorts seen x v → SeenFit sorts seen (x + 1) 0
-  fit_end v f = record { long = f.long; at = λ w n. (⊎_elim (λ h. inl (omega arith)) (λ p. inl (omega (arith, p.0))) (f.at w n).0, (f.at w n).1) }
-
-pub same_change : (b : Bool) → ((b ≡ true) × (b ≡ true)) ⊎ ((b ≡ false) × (b ≡ false))
-same_change true = inl (refl, refl)
-same_change false = inr (refl, refl)
-
 -- a term that is never of a variant alone has nothing to do
 module _ (sorts fieldless : List ℕ) (s : State) (seen : List ℕ) (x : ℕ) where
   pub passed_over : NeverAlone sorts fieldless s x → Advance sorts fieldless s seen x 0 s seen (x + 1) 0 false
@@ -344,15 +327,6 @@ module _ (sorts fieldless : List ℕ) (s : State) (seen : List ℕ) (x : ℕ) wh
   module _ (full : List ℕ) (stop : Bool) where
     pub term_over : NeverAlone sorts fieldless s x → TermOrStop sorts full fieldless stop s seen x s seen 0
     term_over n = record { code = omega arith; passed = λ _. passed_over n; stopped = λ e. absurd (omega (arith, e)) }
-
-    pub term_stops : (b : Bool) → b ≡ (stop && empty_at sorts full s x) → b ≡ true → TermOrStop sorts full fieldless stop s seen x s seen 2
-    term_stops b e t = record { code = omega arith; passed = λ n. absurd (n refl); stopped = λ _. (refl, sym e ∙ t) }
-
-    pub term_changed : (s' : State) (seen' : List ℕ) (b : Bool) → Advance sorts fieldless s seen x 0 s' seen' (x + 1) 0 b → b ≡ true → TermOrStop sorts full fieldless stop s seen x s' seen' 1
-    term_changed s' seen' b p e = record { code = omega arith; passed = λ _. subst (Advance sorts fieldless s seen x 0 s' seen' (x + 1) 0) e p; stopped = λ q. absurd (omega (arith, q)) }
-
-    pub term-same : (s' : State) (seen' : List ℕ) (b : Bool) → Advance sorts fieldless s seen x 0 s' seen' (x + 1) 0 b → b ≡ false → TermOrStop sorts full fieldless stop s seen x s' seen' 0
-    term-same s' seen' b p e = record { code = omega arith; passed = λ _. subst (Advance sorts fieldless s seen x 0 s' seen' (x + 1) 0) e p; stopped = λ q. absurd (omega (arith, q)) }
 
 -- ---- the whole pass
 
@@ -369,9 +343,6 @@ none-fieldless sorts fieldless s x v e =
 
 -- terms that are left out, since their types have no fieldless variant
 module _ (sorts fieldless : List ℕ) (x x' : ℕ) (further : x ≤ x') where
-  pub fit_further : (seen : List ℕ) → SeenFit sorts seen x 0 → SeenFit sorts seen x' 0
-  fit_further seen f = record { long = f.long; at = λ w n. (⊎_elim (λ h. inl (omega arith)) (λ p. absurd (omega (arith, p.1))) (f.at w n).0, (f.at w n).1) }
-
   pub left_out : ((y : ℕ) → x ≤ y → y < x' → has_mask sorts fieldless y ≡ false) → (s s' : State) (seen : List ℕ) (changed : Bool)
       → Entered sorts fieldless s s' seen x 0 changed → Entered sorts fieldless s s' seen x' 0 changed
   left_out no_mask s s' seen changed e =
@@ -401,10 +372,10 @@ module _ (sorts fieldless : List ℕ) (s : State) where
   pub fit_none : SeenFit sorts (replicate 112 unseen) 0 0
   fit_none = record { long = length-replicate 112 unseen; at = λ w n. absurd (n (get_d_same_default 112 w)) }
 
-  pub next-term : (x : ℕ) (s' s'' : State) (seen' seen'' : List ℕ) (a b c : Bool) → Entered sorts fieldless s s' seen' x 0 a
-      → Advance sorts fieldless s' seen' x 0 s'' seen'' (x + 1) 0 b → ((b ≡ true) × (c ≡ true)) ⊎ ((b ≡ false) × (c ≡ a)) → Entered sorts fieldless s s'' seen'' (x + 1) 0 c
+  pub next-term : (x : ℕ) (s' s'' : State) (seen' seen'' : List ℕ) (a b : Bool) → Entered sorts fieldless s s' seen' x 0 a
+      → Advance sorts fieldless s' seen' x 0 s'' seen'' (x + 1) 0 b → Entered sorts fieldless s s'' seen'' (x + 1) 0 (a || b)
   unfolding Advance
-  next-term x s' s'' seen' seen'' a b c e p w = subst (Entered sorts fieldless s s'' seen'' (x + 1) 0) (remembered a b c false w) (p s a e)
+  next-term x s' s'' seen' seen'' a b e p = p s a e
 
   pub all-met : (x : ℕ) {s' : State} {seen : List ℕ} (r : Bool) → 78 ≤ x → Entered sorts fieldless s s' seen x 0 r → Pass (singles_due sorts fieldless) s s' r
   unfolding singles_due singles_of singles_for single_due

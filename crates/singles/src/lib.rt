@@ -75,12 +75,8 @@ fn enter_term(
         return enter(classes, labels, sorts, fieldless, seen, x, lowest);
     }
     let mut changed = false;
-    let mut v: u32 = 0;
-    while v < 16 {
-        if enter(classes, labels, sorts, fieldless, seen, x, v) {
-            changed = true;
-        }
-        v += 1;
+    for v in 0..16 {
+        changed |= enter(classes, labels, sorts, fieldless, seen, x, v);
     }
     changed
 }
@@ -149,10 +145,7 @@ fn pass_term(
     if stops(classes, labels, sorts, full, stop, x) {
         return 2;
     }
-    if enter_term(classes, labels, sorts, fieldless, seen, x) {
-        return 1;
-    }
-    0
+    u8::from(enter_term(classes, labels, sorts, fieldless, seen, x))
 }
 
 // The terms of a list that leaves out none whose type has a fieldless variant. Gives 0 if nothing changed, 1 if something
@@ -175,20 +168,13 @@ pub fn pass_singles(
 {
     let mut seen = [255u8; 112];
     let mut changed = false;
-    let mut i: usize = 0;
-    while i < count {
+    for i in 0..count {
         let x = labelled[i];
         let passed = pass_term(classes, labels, sorts, full, fieldless, &mut seen, stop, x);
         if passed == 2 {
             return 2;
         }
-        if passed == 1 {
-            changed = true;
-        }
-        i += 1;
+        changed |= passed == 1;
     }
-    if changed {
-        return 1;
-    }
-    0
+    u8::from(changed)
 }

@@ -45,13 +45,9 @@ lowest-most m = go (filter (λ v. not (eqb (bit m v) 0)) (from variant_limit 0))
 -- ---- a term
 
 module _ (sorts fieldless : List ℕ) (s : State) (x : ℕ) where
-  pub lacks-fieldless : (v : ℕ) → eqb (bit (fieldless_at sorts fieldless x) v) 0 ≡ true → false ≡ only_is sorts fieldless s x v
+  lacks-fieldless : (v : ℕ) → eqb (bit (fieldless_at sorts fieldless x) v) 0 ≡ true → false ≡ only_is sorts fieldless s x v
   unfolding only_is
   lacks-fieldless v e = sym (ap (λ (b : Bool). not b && alone s x v) e)
-
-  pub has_fieldless : (v : ℕ) → eqb (bit (fieldless_at sorts fieldless x) v) 0 ≡ false → alone s x v ≡ only_is sorts fieldless s x v
-  unfolding only_is
-  has_fieldless v e = sym (ap (λ (b : Bool). not b && alone s x v) e)
 
   -- a type without fieldless variants
   pub never : fieldless_at sorts fieldless x ≡ 0 → (v : ℕ) → only_is sorts fieldless s x v ≡ false

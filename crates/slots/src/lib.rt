@@ -29,6 +29,7 @@ pub fn label_at(classes: &[u8; 96], labels: &[u16; 96], x: usize) -> u16
 
 // ---- shapes: terms built by a variant, each in its slot
 
+#[tactic(auto, using(crate::proofs::Fits::slots_fit))]
 pub fn owner(shapes: &[u16; 256], k: usize) -> u8
     requires k_bound { k < 30 }
     requires shapes_fit { ShapesFit shapes.now }
@@ -51,6 +52,7 @@ pub fn others(shapes: &[u16; 256], k: usize) -> u16
     shapes[8 * k + 2]
 }
 
+#[tactic(auto, using(crate::proofs::Fits::slots_fit))]
 pub fn many(shapes: &[u16; 256], k: usize) -> usize
     requires k_bound { k < 30 }
     requires shapes_fit { ShapesFit shapes.now }
@@ -59,6 +61,7 @@ pub fn many(shapes: &[u16; 256], k: usize) -> usize
     shapes[8 * k + 3] as usize
 }
 
+#[tactic(auto, using(crate::proofs::Fits::slots_fit))]
 pub fn part(shapes: &[u16; 256], k: usize, p: usize) -> u8
     requires k_bound { (k < 30) × (p < 3) }
     requires shapes_fit { ShapesFit shapes.now }
@@ -68,6 +71,7 @@ pub fn part(shapes: &[u16; 256], k: usize, p: usize) -> u8
 }
 
 // Whether slot `k` has a shape whose term has no other variant left.
+#[tactic(auto, using(crate::proofs::Fits::slots_fit), unfolding(arrays::specs::Slots::active))]
 pub fn active(classes: &[u8; 96], labels: &[u16; 96], shapes: &[u16; 256], k: usize) -> bool
     requires k_bound { k < 30 }
     requires held { Held classes.now }
@@ -82,6 +86,7 @@ pub fn active(classes: &[u8; 96], labels: &[u16; 96], shapes: &[u16; 256], k: us
 
 // ---- field reads, each in the slot of its row
 
+#[tactic(auto, using(crate::proofs::Fits::slots_fit))]
 pub fn read_term(reads: &[u16; 96], k: usize) -> u8
     requires k_bound { k < 24 }
     requires reads_fit_lem { ReadsFit reads.now }
@@ -104,6 +109,7 @@ pub fn read_bit(reads: &[u16; 96], k: usize) -> u16
     reads[4 * k + 2]
 }
 
+#[tactic(auto, using(crate::proofs::Fits::slots_fit))]
 pub fn read_default(reads: &[u16; 96], k: usize) -> u8
     requires k_bound { k < 24 }
     requires reads_fit_lem { ReadsFit reads.now }
@@ -115,6 +121,7 @@ pub fn read_default(reads: &[u16; 96], k: usize) -> u8
 // ---- terms of one fieldless variant
 
 // The fieldless variants of a term's type.
+#[tactic(auto, using(crate::proofs::Fits::slots_fit))]
 pub fn fieldless_of(sorts: &[u8; 96], fieldless: &[u16; 8], x: u8) -> u16
     requires x_bound { x < 96 }
     requires sorts_fit { SortsFit sorts.now }
@@ -124,6 +131,7 @@ pub fn fieldless_of(sorts: &[u8; 96], fieldless: &[u16; 8], x: u8) -> u16
 }
 
 // A term is of one fieldless variant alone.
+#[tactic(auto, unfolding(arrays::specs::Slots::only_is))]
 pub fn only_is(
     classes: &[u8; 96],
     labels: &[u16; 96],

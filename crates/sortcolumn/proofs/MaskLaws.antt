@@ -17,10 +17,6 @@ use Rattle.columns.specs.Entries.{bit_of}
 use Rattle.columns.proofs.EntryLaws.{bit_is}
 use Rattle.sortcolumn.specs.Sorts.{fieldless_bit, fieldless_mask}
 
--- at most as many as there can be
-pub at_most : (n : ℕ) → cond (ltb n 16) n 16 ≤ 16
-at_most n = by_test (ltb n 16) (λ b. omega (arith, ap (λ (t : Bool). cond t n 16) b, ltb-true n 16 b)) (λ b. omega (arith, ap (λ (t : Bool). cond t n 16) b))
-
 -- the fieldless variants, one after the other
 
 module _ (arities : List ℕ) (start : ℕ) where
@@ -60,3 +56,5 @@ module _ (arities : List ℕ) (start : ℕ) where
       most k l =
           by_test (ltb k 16) (λ b. omega (arith, pow-lt {i = k} {j = 16} (ltb-true k 16 b)))
           (λ b. let e : k ≡ 16 = omega (arith, ltb-false k 16 b) in omega (arith, ap (λ (n : ℕ). 2 ^ n) e))
+
+pub ruleset mask_steps = (mask_none, mask_next, mask_fits)

@@ -1,5 +1,4 @@
 pub mod Tests
-pub mod Splits
 pub mod InOrder
 pub mod TermOrder
 pub mod SplitLaws

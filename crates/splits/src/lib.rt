@@ -9,7 +9,7 @@ ghost use Rattle.arrays.specs.Slots.{ReadsFit, SortsFit};
 ghost use Rattle.labelled.specs.Covers.{Covers, has_mask};
 ghost use Rattle.splits.specs.Choice.{choice_of, first_by, lowest_in, read_splits, split_by, term_splits};
 
-use slots::{label_at, wide};
+use slots::label_at;
 
 // A decision to split on: whether there is one, whether it is of the first kind, its term and its variant.
 #[derive(Clone, Copy)]
@@ -20,14 +20,9 @@ pub struct Choice {
     pub variant: u8,
 }
 
-fn word(x: u16) -> usize
-    ensures { result ≡ x }
-{
-    x as usize
-}
-
 // ---- the two kinds
 
+#[tactic(auto, unfolding(crate::specs::Choice::read_splits))]
 fn read_splits(classes: &[u8; 96], labels: &[u16; 96], reads: &[u16; 96], k: usize) -> bool
     requires k_bound { k < 24 }
     requires held { Held classes.now }
@@ -37,7 +32,7 @@ fn read_splits(classes: &[u8; 96], labels: &[u16; 96], reads: &[u16; 96], k: usi
     if reads[4 * k + 1] == 0 {
         return false;
     }
-    let label = label_at(classes, labels, word(reads[4 * k]));
+    let label = label_at(classes, labels, reads[4 * k] as usize);
     let bit = reads[4 * k + 2];
     if label & bit == 0 {
         return false;
@@ -46,21 +41,21 @@ fn read_splits(classes: &[u8; 96], labels: &[u16; 96], reads: &[u16; 96], k: usi
 }
 
 // The lowest field row whose read term's label holds its variant and another one; 24 if there is none.
+#[tactic(auto, using(loops::proofs::Loops::lowest_nowhere))]
 fn first_kind(classes: &[u8; 96], labels: &[u16; 96], reads: &[u16; 96]) -> usize
     requires held { Held classes.now }
     requires reads_fit_lem { ReadsFit reads.now }
     ensures { result ≡ lowest (read_splits reads.now (state classes.now labels.now)) 24 }
 {
-    let mut k: usize = 0;
-    while k < 24 {
+    for k in 0..24 {
         if read_splits(classes, labels, reads, k) {
             return k;
         }
-        k += 1;
     }
     24
 }
 
+#[tactic(auto, unfolding(crate::specs::Choice::term_splits))]
 fn term_splits(
     classes: &[u8; 96],
     labels: &[u16; 96],
@@ -74,7 +69,7 @@ fn term_splits(
     ensures { result ≡ term_splits sorts.now fieldless.now (state classes.now labels.now) x }
 {
     let label = label_at(classes, labels, x);
-    if label & fieldless[wide(sorts[x])] != label {
+    if label & fieldless[sorts[x] as usize] != label {
         return false;
     }
     labels::size(label) >= 2
@@ -95,13 +90,11 @@ fn second_kind(
     requires covers { Covers (has_mask sorts.now fieldless.now) 78 labelled.now count }
     ensures { result ≡ lowest (term_splits sorts.now fieldless.now (state classes.now labels.now)) 78 }
 {
-    let mut i: usize = 0;
-    while i < count {
+    for i in 0..count {
         let x = labelled[i] as usize;
         if term_splits(classes, labels, sorts, fieldless, x) {
             return x;
         }
-        i += 1;
     }
     78
 }
@@ -115,13 +108,14 @@ fn decide(first: bool, term: usize, label: u16) -> Choice
 {
     Choice {
         found: true,
-        first: first,
+        first,
         term: term as u8,
         variant: labels::lowest(label) as u8,
     }
 }
 
 // What the node splits on: the first kind before the second.
+#[tactic(auto, unfolding(crate::specs::Choice::split_by, crate::specs::Choice::first_by))]
 pub fn split(
     classes: &[u8; 96],
     labels: &[u16; 96],
@@ -139,7 +133,7 @@ pub fn split(
 {
     let k = first_kind(classes, labels, reads);
     if k < 24 {
-        return decide(true, word(reads[4 * k]), reads[4 * k + 2]);
+        return decide(true, reads[4 * k] as usize, reads[4 * k + 2]);
     }
     let x = second_kind(classes, labels, sorts, fieldless, labelled, count);
     if x < 78 {

@@ -1,5 +1,5 @@
 -- What a search gives with so many nodes to visit. Assumes nothing: definitions.
-use Rattle.std.specs.Prelude.{Bool, cond, false, true, List, ℕ, ◌+◌, ◌-◌, ◌≤◌, leb, length, take}
+use Rattle.std.specs.Prelude.{Bool, cond, false, true, List, ℕ, ◌+◌, ◌-◌, leb, length, take}
 use Rattle.guard.specs.Node.{Kind, Kind.first, Kind.second}
 use Rattle.guard.specs.Search.{Visit, Visits, Visits.closed, Visits.opened, is_split, splits_in, visited, visits}
 use Rattle.tallies.specs.declared.Outcome.{Outcome}

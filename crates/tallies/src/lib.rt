@@ -62,13 +62,13 @@ pub fn with_split(t: Tally, first: bool) -> Tally
     let left = t.left - 1;
     if first {
         return Tally {
-            left: left,
+            left,
             first: t.first + 1,
             second: t.second,
         };
     }
     Tally {
-        left: left,
+        left,
         first: t.first,
         second: t.second + 1,
     }

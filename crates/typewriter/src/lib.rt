@@ -17,14 +17,12 @@ fn put_variant(types: TypeTable, variant: usize, out: &mut [u8], at: usize) -> E
     let arity = types.arities[variant];
     let fields = arity as usize;
     let mut end = bytebuffer::put_one(out, at, arity);
-    let mut j: usize = 0;
-    while j < fields {
+    for j in 0..fields {
         if !end.fits {
             return end;
         }
         let sort = types.sorts[3 * variant + j];
         end = bytebuffer::put_one(out, end.at, sort);
-        j += 1;
     }
     end
 }
@@ -39,13 +37,11 @@ fn put_type(types: TypeTable, t: usize, out: &mut [u8], at: usize) -> End
     let count = types.variants[t];
     let variants = count as usize;
     let mut end = bytebuffer::put_one(out, at, count);
-    let mut v: usize = 0;
-    while v < variants {
+    for v in 0..variants {
         if !end.fits {
             return end;
         }
         end = put_variant(types, first + v, out, end.at);
-        v += 1;
     }
     end
 }
@@ -58,13 +54,11 @@ pub fn put_types(types: TypeTable, out: &mut [u8], at: usize) -> End
 {
     let many = types.many;
     let mut end = bytebuffer::put_one(out, at, many as u8);
-    let mut t: usize = 0;
-    while t < many {
+    for t in 0..many {
         if !end.fits {
             return end;
         }
         end = put_type(types, t, out, end.at);
-        t += 1;
     }
     end
 }

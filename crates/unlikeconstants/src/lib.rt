@@ -20,12 +20,10 @@ fn is_constant_of(classes: &[u8; 96], constants: &[u8; 32], class: u8, k: usize)
 fn first_constant(classes: &[u8; 96], constants: &[u8; 32], class: u8) -> usize
     ensures { result ≡ lowest (constant_of constants.now classes.now class) 30 }
 {
-    let mut k: usize = 0;
-    while k < 30 {
+    for k in 0..30 {
         if is_constant_of(classes, constants, class, k) {
             return k;
         }
-        k += 1;
     }
     30
 }
@@ -53,12 +51,10 @@ pub fn holds_unlike(classes: &[u8; 96], constants: &[u8; 32], values: &[i64; 24]
     ensures { result ≡ unlike_in constants.now values.now classes.now class }
 {
     let first = first_constant(classes, constants, class);
-    let mut k: usize = 0;
-    while k < 30 {
+    for k in 0..30 {
         if is_other_constant(classes, constants, values, class, first, k) {
             return true;
         }
-        k += 1;
     }
     false
 }

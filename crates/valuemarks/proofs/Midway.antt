@@ -3,7 +3,7 @@ use mathlib.Core.Path.{◌≡◌, refl, ap, ap₂, sym, ◌∙◌}
 use mathlib.Core.List.{List, [], ◌∷◌, ◌++◌, append_assoc, append-nil, map, map-append}
 use Prim.Native.Nat.{ℕ, zero, suc, ◌+◌, ◌-◌, ◌≤◌, ◌<◌}
 use native.Mathlib.Omega.{arith}
-use lib.ListN.{length, drop, take, replicate, set, drop_of_length-le, length-append, length-map, length-replicate}
+use lib.ListN.{length, drop, take, replicate, set, drop_of_length-le, length-append, length-map}
 use lib.Seq.{take_all}
 use Rattle.laws.specs.Lists.{concat_map}
 use Rattle.guard.specs.Guard.{Guard, Literal, Literal.equal, Literal.is, Literal.isnt, Literal.unequal, Row, Row.built, Row.constant, Row.field, Row.variable, row_at}
@@ -61,15 +61,6 @@ constant-three r e = sym (length-map (row_tokens r) mark_of) ∙ ap length (cons
 pub record Midway (g : Guard) (at r : ℕ) (marks : List ℕ) : Type 0 where
   pub begins : at ≡ length (until_rows g ++ concat_map row_tokens (take r g.rows))
   pub are : marks ≡ replicate at 0 ++ (map mark_of (concat_map row_tokens (drop r g.rows)) ++ replicate (room - length (until_lines g)) 0)
-
--- T and N stand before the rows
-pub some-before : (g : Guard) (at r : ℕ) (marks : List ℕ) → Midway g at r marks → 1 ≤ at
-some-before g at r marks m = omega (arith, m.begins)
-
-pub at-inside : (g : Guard) (at r : ℕ) (marks : List ℕ) → Midway g at r marks → at ≤ length marks
-at-inside g at r marks m =
-    let behind : List ℕ = map mark_of (concat_map row_tokens (drop r g.rows)) ++ replicate (room - length (until_lines g)) 0 in
-    omega (arith, ap length m.are, length-append (replicate at 0) behind, length-replicate {A = ℕ} at 0)
 
 module _ (g : Guard) (at r : ℕ) (marks : List ℕ) (inside : r < length g.rows) (m : Midway g at (suc r) marks) (n : ℕ) (numbers : n ≡ length (row_tokens (row_at g.rows r))) where
   abbrev row : Row

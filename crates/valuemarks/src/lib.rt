@@ -34,9 +34,7 @@ pub fn mark_values(types: TypeTable, rows: RowTable, end: usize, marks: &mut [u8
     ensures { MarksValues types rows end marks.new }
 {
     let mut at = end;
-    let mut r = rows.many;
-    while 0 < r {
-        r -= 1;
+    for r in (0..rows.many).rev() {
         if rows.kinds[r] == 1 {
             marks[at - 1] = 1;
         }

@@ -102,12 +102,10 @@ fn row_masks(
     let many = variants_of(types, rows, i);
     let mut known: u16 = 0;
     let mut there: u16 = 0;
-    let mut v: u8 = 0;
-    while v < many {
+    for v in 0..many {
         let n = number_of(types, rows, lines, budget, i, v, settled, possible);
         known += bit_if(n != 3, v);
         there += bit_if(n == 1, v);
-        v += 1;
     }
     Masks {
         settled: known,
@@ -128,13 +126,11 @@ pub fn fill(
     requires summary_length_in_bounds { summary_length ≤ length summary.old }
     ensures { Fills types rows lines budget anew summary.old summary.new }
 {
-    let mut i: usize = 0;
-    while i < 24 {
+    for i in 0..24 {
         let k = 2 * i;
         let old = columns::choose(anew, 0, summary[k]);
         let m = row_masks(types, rows, lines, budget, i as u8, old, summary[k + 1]);
         summary[k] = m.settled;
         summary[k + 1] = m.possible;
-        i += 1;
     }
 }

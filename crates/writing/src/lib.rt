@@ -10,12 +10,9 @@ pub fn put_bytes(out: &mut [u8], at: usize, text: &[u8]) -> usize
     requires { at + length text.now ≤ length out.old }
     ensures { Written (length text.now) out.old at text.now out.new result }
 {
-    let mut i: usize = 0;
-    while i < text.len() {
-        out[at + i] = text[i];
-        i += 1;
-    }
-    at + i
+    let end = at + text.len();
+    out[at..end].copy_from_slice(text);
+    end
 }
 
 pub fn put_number(out: &mut [u8], at: usize, n: u32) -> usize
@@ -75,10 +72,7 @@ pub fn put_value(out: &mut [u8], at: usize, value: i64) -> usize
 pub fn number_at(numbers: &[i32], j: usize) -> i32
     ensures { result ≡ get_or numbers.now j (pos 0) }
 {
-    if j < numbers.len() {
-        return numbers[j];
-    }
-    0
+    numbers.get(j).copied().unwrap_or(0)
 }
 
 // The number at `j` after a space.

@@ -4,11 +4,8 @@ use Rattle.answertext.proofs.TablesShown.{arities-fit, shown-is, tables_of}
 use Rattle.writing.proofs.Writing.{and_then, more_room, same_text}
 use Rattle.answertext.proofs.put_shown.Goals as goal
 
-pub put_rows-next-requires : goal.put_rows-next-requires
-put_rows-next-requires c = record {
-  arities_fit = arities-fit (tables_of c.args.bytes.now c.read-t.result c.read-t.ensures);
-  many_in_bounds = omega arith;
-}
+pub put_rows-next-requires-clause-arities_fit : goal.put_rows-next-requires-clause-arities_fit
+put_rows-next-requires-clause-arities_fit c = arities-fit (tables_of c.args.bytes.now c.read-t.result c.read-t.ensures)
 
 pub overflow_cast-table : goal.overflow_cast-table
 overflow_cast-table c = let r = tables_of c.args.bytes.now c.read-t.result c.read-t.ensures in omega (arith, r.terms, r.few)

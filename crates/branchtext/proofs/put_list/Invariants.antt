@@ -1,10 +1,6 @@
 -- `put_list` meets its contract: the lines of the codes before the k-th are put, and those left are the rest. Assumes nothing.
-use Prim.Native.Nat.{◌-◌}
 use Rattle.branchtext.proofs.ListLaws.{Put}
 use Rattle.branchtext.proofs.put_list.Given as goal
 
 abbrev pub invariant-loop-k : goal.invariant-loop-k
 invariant-loop-k l = Put l.name l.code l.n l.first l.place l.codes l.initial.out l.at l.out l.next l.k
-
-abbrev pub decreases-loop-k : goal.decreases-loop-k
-decreases-loop-k l = l.n - l.k

@@ -1,11 +1,7 @@
 -- `put_pairs` meets its contract: the lines of the pairs whose lower branch is before the i-th are put, and those left are the rest.
 -- Assumes nothing.
-use Prim.Native.Nat.{◌-◌}
 use Rattle.branchtext.proofs.PairLaws.{Put}
 use Rattle.branchtext.proofs.put_pairs.Given as goal
 
 abbrev pub invariant-loop-i : goal.invariant-loop-i
 invariant-loop-i l = Put l.word l.code l.many l.codes l.initial.out l.at l.out l.next l.place l.i
-
-abbrev pub decreases-loop-i : goal.decreases-loop-i
-decreases-loop-i l = l.many - l.i

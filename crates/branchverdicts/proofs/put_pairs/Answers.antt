@@ -1,20 +1,15 @@
 -- `put_pairs` meets its contract. Invariant: the numbers of the pairs whose lower branch is before the i-th are put, and those left are the
 -- rest of all. Assumes nothing.
 use mathlib.Core.List.{[]}
-use Prim.Native.Nat.{◌-◌}
 use native.Mathlib.Omega.{arith}
 use Rattle.tables.specs.declared.LiteralTable.{LiteralTable}
 use Rattle.branchverdicts.proofs.Asking.{branch_held, few, lines_at}
-use Rattle.branchverdicts.proofs.PairLaws.{pairs-all, pairs-more, pairs-none, room_for}
+use Rattle.branchverdicts.proofs.PairLaws.{pairs-all, pairs-more, room_for}
 use Rattle.branchverdicts.proofs.put_pairs.Goals as goal
 
 -- what an array of tables is read as past its end
 abbrev noTable : LiteralTable
 noTable = record { many = 0; kinds = []; terms = []; others = [] }
-
-pub loop-i-init : goal.loop-i-init
-loop-i-init c = let s = c.args in
-    pairs-none s.t s.budget s.out.now s.at (omega (arith, c.requires.at_in_bounds))
 
 pub offset_bounds-lines-i : goal.offset_bounds-lines-i
 offset_bounds-lines-i c = let k = c.requires.taken in
@@ -24,15 +19,16 @@ pub bounds-lines-i : goal.bounds-lines-i
 bounds-lines-i c = let k = c.requires.taken in
     omega (arith, few c.args.t k.procedure k.holds)
 
-pub put_with-next-requires : goal.put_with-next-requires
-put_with-next-requires c = let s = c.args in
+pub put_with-next-requires-clause-taken_with : goal.put_with-next-requires-clause-taken_with
+put_with-next-requires-clause-taken_with c = let s = c.args in
     let k = c.requires.taken in
+    let i = c.loop-i.i in
+    record { procedure = k.procedure; holds = k.holds; literals = lines_at s.t k.procedure k.holds i; held = branch_held s.t k.procedure k.holds i (omega arith) noTable }
+
+pub put_with-next-requires-clause-from_in_bounds : goal.put_with-next-requires-clause-from_in_bounds
+put_with-next-requires-clause-from_in_bounds c = let s = c.args in
     let l = c.loop-i in
-    let i = l.i in record {
-      taken_with = record { procedure = k.procedure; holds = k.holds; literals = lines_at s.t k.procedure k.holds i; held = branch_held s.t k.procedure k.holds i (omega arith) noTable };
-      from_le_many = omega arith;
-      from_in_bounds = room_for s.t s.budget s.out.now s.at l.out l.next i l.invariant (omega arith) k c.requires.at_in_bounds;
-    }
+    room_for s.t s.budget s.out.now s.at l.out l.next l.i l.invariant (omega arith) c.requires.taken c.requires.at_in_bounds
 
 pub loop-i-preserved : goal.loop-i-preserved
 loop-i-preserved c = let s = c.args in
@@ -43,12 +39,3 @@ pub returns : goal.returns
 returns c = let s = c.args in
     let l = c.loop-i in
     pairs-all s.t s.budget s.out.now s.at l.out l.next l.i l.invariant (omega arith)
-
-pub overflow_add-i : goal.overflow_add-i
-overflow_add-i c = omega arith
-
-pub overflow_add-i-in-loop-i : goal.overflow_add-i-in-loop-i
-overflow_add-i-in-loop-i c = omega arith
-
-pub loop-i-smaller : goal.loop-i-smaller
-loop-i-smaller c = omega arith

@@ -1,7 +1,6 @@
 -- `put_with` meets its contract. Invariant: the numbers of the branches before the j-th are put, and those left are the rest of all.
 -- Assumes nothing.
 use mathlib.Core.List.{[]}
-use Prim.Native.Nat.{◌-◌}
 use native.Mathlib.Omega.{arith}
 use lib.ListN.{get_or}
 use Rattle.tables.specs.declared.LiteralTable.{LiteralTable}
@@ -15,7 +14,7 @@ noTable = record { many = 0; kinds = []; terms = []; others = [] }
 
 pub loop-j-init : goal.loop-j-init
 loop-j-init c = let s = c.args in
-    put_none s.t s.first s.from s.budget s.out.now s.at c.requires.from_le_many (omega (arith, c.requires.from_in_bounds))
+    put_none s.t s.first s.from s.budget s.out.now s.at (omega (arith, c.requires.from_in_bounds))
 
 pub offset_bounds-lines-j : goal.offset_bounds-lines-j
 offset_bounds-lines-j c = let k = c.requires.taken_with in
@@ -48,9 +47,3 @@ returns c = let s = c.args in
 
 pub overflow_add-next : goal.overflow_add-next
 overflow_add-next c = omega arith
-
-pub overflow_add-j : goal.overflow_add-j
-overflow_add-j c = omega arith
-
-pub loop-j-smaller : goal.loop-j-smaller
-loop-j-smaller c = omega arith

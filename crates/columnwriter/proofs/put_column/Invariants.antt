@@ -1,6 +1,5 @@
 -- `put_column`: the numbers of the rows before r stand in the buffer. Assumes nothing.
 use mathlib.Core.List.{List}
-use Prim.Native.Nat.{◌-◌, ◌≤◌}
 use Rattle.guard.specs.Guard.{Row}
 use Rattle.guard.specs.Types.{Types}
 use Rattle.heldparts.specs.Held.{HoldsRows, HoldsTypes}
@@ -10,7 +9,4 @@ use Rattle.columnwriter.proofs.put_column.Given as goal
 
 -- for all rows that the tables may hold
 abbrev pub invariant-loop-r : goal.invariant-loop-r
-invariant-loop-r l = (l.r ≤ l.many) × ((ts : Types) (rs : List Row) → HoldsTypes l.types ts → HoldsRows l.rows ts rs → Behind (λ x. bytes_for (entry l.j x)) rs l.initial.out l.initial.end l.r l.out l.end)
-
-abbrev pub decreases-loop-r : goal.decreases-loop-r
-decreases-loop-r l = l.many - l.r
+invariant-loop-r l = (ts : Types) (rs : List Row) → HoldsTypes l.types ts → HoldsRows l.rows ts rs → Behind (λ x. bytes_for (entry l.j x)) rs l.initial.out l.initial.end l.r l.out l.end

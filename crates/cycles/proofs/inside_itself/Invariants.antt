@@ -1,12 +1,8 @@
 -- `inside_itself` meets its contract. Invariant: nothing is found below. Assumes nothing.
-use Prim.Native.Nat.{◌-◌, ◌≤◌}
 use Rattle.classes.specs.Held.{state}
 use Rattle.cycles.specs.Cycles.{Inside}
 use Rattle.cycles.proofs.PartLaws.{NoneBelow}
 use Rattle.cycles.proofs.inside_itself.Given as goal
 
 abbrev pub invariant-loop-x : goal.invariant-loop-x
-invariant-loop-x l = (l.x ≤ 78) × NoneBelow (Inside l.shapes l.sorts (state l.classes l.labels)) l.x
-
-abbrev pub decreases-loop-x : goal.decreases-loop-x
-decreases-loop-x l = 78 - l.x
+invariant-loop-x l = NoneBelow (Inside l.shapes l.sorts (state l.classes l.labels)) l.x

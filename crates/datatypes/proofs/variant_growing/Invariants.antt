@@ -1,7 +1,7 @@
 -- `variant_growing` meets its contract. Invariant: whether there is an infinite field is whether the rest have one.
 -- Assumes nothing.
 use mathlib.Core.Path.{◌≡◌}
-use Prim.Native.Nat.{◌-◌, ◌≤◌}
+use Prim.Native.Nat.{◌-◌}
 use Rattle.laws.specs.Lists.{any, from}
 use Rattle.finite.specs.TypeColumns.{fields_at}
 use Rattle.datatypes.specs.Facts.{growing}
@@ -9,7 +9,4 @@ use Rattle.datatypes.proofs.QuestionLaws.{infinite_at}
 use Rattle.datatypes.proofs.variant_growing.Given as goal
 
 abbrev pub invariant-loop-j : goal.invariant-loop-j
-invariant-loop-j l = (l.j ≤ l.arity) × (growing l.finite (fields_at l.arities l.sorts l.w) ≡ any (infinite_at l.arities l.sorts l.finite l.w) (from (l.arity - l.j) l.j))
-
-abbrev pub decreases-loop-j : goal.decreases-loop-j
-decreases-loop-j l = l.arity - l.j
+invariant-loop-j l = growing l.finite (fields_at l.arities l.sorts l.w) ≡ any (infinite_at l.arities l.sorts l.finite l.w) (from (l.arity - l.j) l.j)

@@ -1,5 +1,4 @@
 -- `default_row` and `parts` meet their contracts. Assumes nothing.
-use mathlib.Core.Path.{◌≡◌}
 use Prim.Native.Nat.{◌+◌, ◌-◌}
 use native.Mathlib.Omega.{arith}
 use lib.ListN.{get_or, set}
@@ -77,11 +76,10 @@ pub parts-bounds-list-p : goal.parts-bounds-list-p
 parts-bounds-list-p t c = (omega (arith, c.loop-p-test.true, c.arity-n.ensures, fields-three c.args.forms c.requires.forms_fit c.args.t c.args.v))
 
 pub parts-loop-p-preserved-then-p-c : goal.parts-loop-p-preserved-then-p-c
-parts-loop-p-preserved-then-p-c t c = (
-  omega (arith, c.loop-p-test.true),
-  parted_given (types_in c.args.forms) (fields_of (types_in c.args.forms) c.args.t c.args.v) c.args.c c.args.row c.args.rows.now c.args.many c.args.drawn.now c.loop-p.p c.loop-p.list c.loop-p.rows c.loop-p.count c.loop-p.drawn c.loop-p.invariant.1 (omega (arith, c.loop-p-test.true, c.arity-n.ensures, fields-three c.args.forms c.requires.forms_fit c.args.t c.args.v)) (omega (arith, c.loop-p-test.true, c.arity-n.ensures)) c.if-p-c.true c.requires.given,
-  c.loop-p.invariant.2,
-)
+parts-loop-p-preserved-then-p-c t c = record {
+  parted = parted_given (types_in c.args.forms) (fields_of (types_in c.args.forms) c.args.t c.args.v) c.args.c c.args.row c.args.rows.now c.args.many c.args.drawn.now c.loop-p.p c.loop-p.list c.loop-p.rows c.loop-p.count c.loop-p.drawn c.loop-p.invariant.parted (omega (arith, c.loop-p-test.true, c.arity-n.ensures, fields-three c.args.forms c.requires.forms_fit c.args.t c.args.v)) (omega (arith, c.loop-p-test.true, c.arity-n.ensures)) c.if-p-c.true c.requires.given;
+  sparing = c.loop-p.invariant.sparing;
+}
 
 pub parts-bounds-drawn-s : goal.parts-bounds-drawn-s
 parts-bounds-drawn-s t c = type-small c.args.forms c.requires.forms_fit c.sort-s.result (omega (arith, c.sort-s.ensures, sort-inside c.args.forms c.requires.forms_fit c.args.t c.args.v c.loop-p.p (omega (arith, c.loop-p-test.true, c.arity-n.ensures))))
@@ -90,24 +88,22 @@ pub parts-bounds-list-p-then-known-gt0 : goal.parts-bounds-list-p-then-known-gt0
 parts-bounds-list-p-then-known-gt0 t c = (omega (arith, c.loop-p-test.true, c.arity-n.ensures, fields-three c.args.forms c.requires.forms_fit c.args.t c.args.v))
 
 pub parts-loop-p-preserved-then-known-gt0 : goal.parts-loop-p-preserved-then-known-gt0
-parts-loop-p-preserved-then-known-gt0 t c = (
-  omega (arith, c.loop-p-test.true),
-  parted_default (types_in c.args.forms) (fields_of (types_in c.args.forms) c.args.t c.args.v) c.args.c c.args.row c.args.rows.now c.args.many c.args.drawn.now c.loop-p.p c.loop-p.list c.loop-p.rows c.loop-p.count c.loop-p.drawn c.loop-p.invariant.1 (omega (arith, c.loop-p-test.true, c.arity-n.ensures, fields-three c.args.forms c.requires.forms_fit c.args.t c.args.v)) (omega (arith, c.loop-p-test.true, c.arity-n.ensures)) c.if-p-c.false c.sort-s.result c.sort-s.ensures (get_or c.loop-p.drawn c.sort-s.result 0 - 1) c.loop-p.rows c.loop-p.count c.loop-p.drawn (default-known (types_in c.args.forms) c.loop-p.rows c.loop-p.count c.loop-p.drawn c.sort-s.result c.loop-p.invariant.1.store c.if-known-gt0.true),
-  c.loop-p.invariant.2,
-)
+parts-loop-p-preserved-then-known-gt0 t c = record {
+  parted = parted_default (types_in c.args.forms) (fields_of (types_in c.args.forms) c.args.t c.args.v) c.args.c c.args.row c.args.rows.now c.args.many c.args.drawn.now c.loop-p.p c.loop-p.list c.loop-p.rows c.loop-p.count c.loop-p.drawn c.loop-p.invariant.parted (omega (arith, c.loop-p-test.true, c.arity-n.ensures, fields-three c.args.forms c.requires.forms_fit c.args.t c.args.v)) (omega (arith, c.loop-p-test.true, c.arity-n.ensures)) c.if-p-c.false c.sort-s.result c.sort-s.ensures (get_or c.loop-p.drawn c.sort-s.result 0 - 1) c.loop-p.rows c.loop-p.count c.loop-p.drawn (default-known (types_in c.args.forms) c.loop-p.rows c.loop-p.count c.loop-p.drawn c.sort-s.result c.loop-p.invariant.parted.store c.if-known-gt0.true);
+  sparing = c.loop-p.invariant.sparing;
+}
 
 pub parts-default_row-d-requires : goal.parts-default_row-d-requires
 parts-default_row-d-requires t c = (
   omega (arith, part_smaller (types_in c.args.forms) (fields_of (types_in c.args.forms) c.args.t c.args.v) c.loop-p.p (omega (arith, c.loop-p-test.true, c.arity-n.ensures)) c.sort-s.result c.sort-s.ensures, c.decreases),
-  (c.requires.forms_fit, (c.loop-p.invariant.1.store, (parted_room (types_in c.args.forms) (fields_of (types_in c.args.forms) c.args.t c.args.v) c.args.c c.args.row c.args.rows.now c.args.many c.args.drawn.now c.loop-p.p c.loop-p.list c.loop-p.rows c.loop-p.count c.loop-p.drawn c.loop-p.invariant.1 0 c.requires.room, (omega (arith, c.sort-s.ensures, sort-inside c.args.forms c.requires.forms_fit c.args.t c.args.v c.loop-p.p (omega (arith, c.loop-p-test.true, c.arity-n.ensures))))))),
+  (c.requires.forms_fit, (c.loop-p.invariant.parted.store, (parted_room (types_in c.args.forms) (fields_of (types_in c.args.forms) c.args.t c.args.v) c.args.c c.args.row c.args.rows.now c.args.many c.args.drawn.now c.loop-p.p c.loop-p.list c.loop-p.rows c.loop-p.count c.loop-p.drawn c.loop-p.invariant.parted 0 c.requires.room, (omega (arith, c.sort-s.ensures, sort-inside c.args.forms c.requires.forms_fit c.args.t c.args.v c.loop-p.p (omega (arith, c.loop-p-test.true, c.arity-n.ensures))))))),
 )
 
 pub parts-bounds-list-p-in-loop-p : goal.parts-bounds-list-p-in-loop-p
 parts-bounds-list-p-in-loop-p t c = (omega (arith, c.loop-p-test.true, c.arity-n.ensures, fields-three c.args.forms c.requires.forms_fit c.args.t c.args.v))
 
 pub parts-loop-p-preserved : goal.parts-loop-p-preserved
-parts-loop-p-preserved t c = (
-  omega (arith, c.loop-p-test.true),
-  parted_default (types_in c.args.forms) (fields_of (types_in c.args.forms) c.args.t c.args.v) c.args.c c.args.row c.args.rows.now c.args.many c.args.drawn.now c.loop-p.p c.loop-p.list c.loop-p.rows c.loop-p.count c.loop-p.drawn c.loop-p.invariant.1 (omega (arith, c.loop-p-test.true, c.arity-n.ensures, fields-three c.args.forms c.requires.forms_fit c.args.t c.args.v)) (omega (arith, c.loop-p-test.true, c.arity-n.ensures)) c.if-p-c.false c.sort-s.result c.sort-s.ensures c.default_row-d.result.row c.default_row-d.new.rows c.default_row-d.result.many c.default_row-d.new.drawn c.default_row-d.ensures.drew,
-  sparing-next (types_in c.args.forms) (fields_of (types_in c.args.forms) c.args.t c.args.v) c.loop-p.p (omega (arith, c.loop-p-test.true, c.arity-n.ensures)) c.sort-s.result c.sort-s.ensures c.args.drawn.now c.loop-p.drawn c.default_row-d.new.drawn c.loop-p.invariant.2 c.default_row-d.ensures.sparing,
-)
+parts-loop-p-preserved t c = record {
+  parted = parted_default (types_in c.args.forms) (fields_of (types_in c.args.forms) c.args.t c.args.v) c.args.c c.args.row c.args.rows.now c.args.many c.args.drawn.now c.loop-p.p c.loop-p.list c.loop-p.rows c.loop-p.count c.loop-p.drawn c.loop-p.invariant.parted (omega (arith, c.loop-p-test.true, c.arity-n.ensures, fields-three c.args.forms c.requires.forms_fit c.args.t c.args.v)) (omega (arith, c.loop-p-test.true, c.arity-n.ensures)) c.if-p-c.false c.sort-s.result c.sort-s.ensures c.default_row-d.result.row c.default_row-d.new.rows c.default_row-d.result.many c.default_row-d.new.drawn c.default_row-d.ensures.drew;
+  sparing = sparing-next (types_in c.args.forms) (fields_of (types_in c.args.forms) c.args.t c.args.v) c.loop-p.p (omega (arith, c.loop-p-test.true, c.arity-n.ensures)) c.sort-s.result c.sort-s.ensures c.args.drawn.now c.loop-p.drawn c.default_row-d.new.drawn c.loop-p.invariant.sparing c.default_row-d.ensures.sparing;
+}

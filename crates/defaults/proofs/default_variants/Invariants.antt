@@ -1,12 +1,8 @@
 -- `default_variants` meets its contract. Invariant: the column is that of so many rounds. Assumes nothing.
 use mathlib.Core.Path.{◌≡◌}
-use Prim.Native.Nat.{◌-◌, ◌≤◌}
 use Rattle.defaults.specs.Settled.{settled_after}
 use Rattle.finite.specs.TypeColumns.{types_in}
 use Rattle.defaults.proofs.default_variants.Given as goal
 
 abbrev pub invariant-loop-round : goal.invariant-loop-round
-invariant-loop-round l = (l.round ≤ l.many) × (l.settled ≡ settled_after l.round l.variants (types_in l.many l.variants l.first l.arities l.sorts))
-
-abbrev pub decreases-loop-round : goal.decreases-loop-round
-decreases-loop-round l = l.many - l.round
+invariant-loop-round l = l.settled ≡ settled_after l.round l.variants (types_in l.many l.variants l.first l.arities l.sorts)

@@ -1,12 +1,8 @@
 -- `next_defaults` meets its contract. Invariant: the defaults so far are a column. Assumes nothing.
 use mathlib.Core.Path.{◌≡◌}
-use Prim.Native.Nat.{◌-◌, ◌≤◌}
 use Rattle.finite.specs.TypeColumns.{column, types_in}
 use Rattle.defaults.specs.Settled.{next_settled}
 use Rattle.defaults.proofs.next_defaults.Given as goal
 
 abbrev pub invariant-loop-t : goal.invariant-loop-t
-invariant-loop-t l = (l.t ≤ l.many) × (l.next ≡ column (next_settled l.settled (types_in l.many l.variants l.first l.arities l.sorts)) l.t)
-
-abbrev pub decreases-loop-t : goal.decreases-loop-t
-decreases-loop-t l = l.many - l.t
+invariant-loop-t l = l.next ≡ column (next_settled l.settled (types_in l.many l.variants l.first l.arities l.sorts)) l.t

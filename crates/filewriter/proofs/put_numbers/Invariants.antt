@@ -2,7 +2,8 @@
 use mathlib.Core.Path.{◌≡◌}
 use mathlib.Core.Bool.{true}
 use mathlib.Core.List.{List}
-use Prim.Native.Nat.{◌-◌, ◌≤◌}
+use Prim.Native.Nat.{ℕ, ◌≤◌}
+use lib.IntN.{ℤ}
 use lib.ListN.{length, take}
 use Rattle.serialize.specs.Tokens.{Token}
 use Rattle.bytebuffer.specs.Puts.{Puts}
@@ -10,10 +11,11 @@ use Rattle.filewriter.specs.Marking.{Marked}
 use Rattle.filewriter.proofs.TokenLaws.{bytes}
 use Rattle.filewriter.proofs.put_numbers.Given as goal
 
--- for all tokens that the list and its marks may be of
-abbrev pub invariant-loop-i : goal.invariant-loop-i
-invariant-loop-i l = (l.i ≤ length l.list) × (length l.out ≡ length l.initial.out) × (l.at ≤ length l.out)
-    × ((ks : List Token) → Marked l.list l.marks ks → Puts (bytes (take l.i ks)) l.initial.out 0 (record { fits = true; at = l.at }) l.out)
+-- the buffer keeps its length, and the bytes are put up to `at`, for all tokens that the list and its marks may be of
+pub record NumbersPut (list : List ℤ) (marks out : List ℕ) (i at : ℕ) (out' : List ℕ) : Type 0 where
+  pub long : length out' ≡ length out
+  pub room : at ≤ length out'
+  pub puts : (ks : List Token) → Marked list marks ks → Puts (bytes (take i ks)) out 0 (record { fits = true; at = at }) out'
 
-abbrev pub decreases-loop-i : goal.decreases-loop-i
-decreases-loop-i l = length l.list - l.i
+abbrev pub invariant-loop-i : goal.invariant-loop-i
+invariant-loop-i l = NumbersPut l.list l.marks l.initial.out l.i l.at l.out

@@ -1,6 +1,6 @@
 -- `draw_class` meets its contract. Assumes nothing.
 use mathlib.Core.Path.{◌≡◌, ap}
-use Prim.Native.Nat.{ℕ, ◌+◌, ◌<◌, suc}
+use Prim.Native.Nat.{ℕ, ◌+◌, suc}
 use native.Mathlib.Omega.{arith}
 use lib.ListN.{set}
 use Rattle.fixedrows.proofs.StageLaws.{due-few, due-long, due-low, row_small}

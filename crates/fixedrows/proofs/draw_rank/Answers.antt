@@ -1,6 +1,6 @@
 -- `draw_rank` meets its contract. Assumes nothing.
 use mathlib.Core.Path.{◌≡◌, sym, ◌∙◌, subst}
-use Prim.Native.Nat.{ℕ, suc, ◌+◌, ◌-◌}
+use Prim.Native.Nat.{ℕ, suc, ◌+◌}
 use native.Mathlib.Omega.{arith}
 use Rattle.fixedrows.specs.Stage.{Advances}
 use Rattle.fixedrows.proofs.StageLaws.{advances_as, advances-long, advances-none, advances-then, next-rank, noted_advances, passed_over, staged-then}
@@ -8,7 +8,7 @@ use Rattle.fixedrows.proofs.draw_rank.Goals as goal
 use Rattle.fixedrows.proofs.draw_rank.Goals.{else-is_due, then-is_due}
 
 pub loop-c-init : goal.loop-c-init
-loop-c-init c = let a = c.args in (omega arith, advances-none a.leaf a.at.now a.rows.now a.many a.n 0)
+loop-c-init c = let a = c.args in advances-none a.leaf a.at.now a.rows.now a.many a.n 0
 
 pub is_due-requires : goal.is_due-requires
 is_due-requires c = omega (arith, c.loop-c-test.true)
@@ -19,14 +19,8 @@ draw_class-count-requires c = let a = c.args in
     record {
       c_bound = c.loop-c-test.true;
       leaf_fits = c.requires.leaf_fits;
-      due_now = record { rank = a.n; staged = staged-then a.leaf a.at.now a.rows.now a.many a.n 0 l.at l.rows l.count a.n l.c l.invariant.1 c.requires.staged; due = sym c.is_due.ensures ∙ c.if-is_due.true };
+      due_now = record { rank = a.n; staged = staged-then a.leaf a.at.now a.rows.now a.many a.n 0 l.at l.rows l.count a.n l.c l.invariant c.requires.staged; due = sym c.is_due.ensures ∙ c.if-is_due.true };
     }
-
-pub overflow_add-c : goal.overflow_add-c
-overflow_add-c c = record { fits = omega (arith, c.loop-c-test.true) }
-
-pub loop-c-smaller : goal.loop-c-smaller
-loop-c-smaller c = omega (arith, c.loop-c-test.true)
 
 pub loop-c-preserved : goal.loop-c-preserved
 loop-c-preserved c = let a = c.args in
@@ -43,16 +37,13 @@ loop-c-preserved c = let a = c.args in
           advances_as a.leaf l.at l.rows l.count a.n l.c a.n (suc l.c) l.at m.at l.rows m.rows l.count m.count w.at-is w.rows-is w.count-is
           (passed_over a.leaf l.at l.rows l.count a.n l.c (sym d.ensures ∙ w.if-is_due.false))
     ]
-    in (
-      omega (arith, c.loop-c-test.true),
-      subst (λ (k : ℕ). Advances a.leaf a.at.now a.rows.now a.many a.n 0 m.at m.rows m.count a.n k) one
-          (advances-then a.leaf a.at.now a.rows.now a.many a.n 0 l.at l.rows l.count a.n l.c l.invariant.1 m.at m.rows m.count a.n (suc l.c) step),
-    )
+    in subst (λ (k : ℕ). Advances a.leaf a.at.now a.rows.now a.many a.n 0 m.at m.rows m.count a.n k) one
+    (advances-then a.leaf a.at.now a.rows.now a.many a.n 0 l.at l.rows l.count a.n l.c l.invariant m.at m.rows m.count a.n (suc l.c) step)
 
 pub shape_of-rows : goal.shape_of-rows
-shape_of-rows c = let a = c.args in let l = c.loop-c in advances-long a.leaf a.at.now a.rows.now a.many a.n 0 l.at l.rows l.count a.n l.c l.invariant.1 c.requires.staged
+shape_of-rows c = let a = c.args in let l = c.loop-c in advances-long a.leaf a.at.now a.rows.now a.many a.n 0 l.at l.rows l.count a.n l.c l.invariant c.requires.staged
 
 pub returns : goal.returns
 returns c = let a = c.args in
     let l = c.loop-c in
-    advances-then a.leaf a.at.now a.rows.now a.many a.n 0 l.at l.rows l.count a.n l.c l.invariant.1 l.at l.rows l.count (suc a.n) 0 (next-rank a.leaf l.at l.rows l.count a.n l.c (omega (arith, c.loop-c-test.false)))
+    advances-then a.leaf a.at.now a.rows.now a.many a.n 0 l.at l.rows l.count a.n l.c l.invariant l.at l.rows l.count (suc a.n) 0 (next-rank a.leaf l.at l.rows l.count a.n l.c (omega (arith, c.loop-c-test.false)))

@@ -1,10 +1,6 @@
 -- `fixed_rows` meets its contract. Assumes nothing.
-use Prim.Native.Nat.{suc, ◌-◌, ◌≤◌}
 use Rattle.fixedrows.specs.Stage.{Advances}
 use Rattle.fixedrows.proofs.fixed_rows.Given as goal
 
 abbrev pub invariant-loop-n : goal.invariant-loop-n
-invariant-loop-n l = (l.n ≤ suc l.most) × Advances l.leaf l.initial.at l.initial.rows l.many 0 0 l.at l.rows l.count l.n 0
-
-abbrev pub decreases-loop-n : goal.decreases-loop-n
-decreases-loop-n l = suc l.most - l.n
+invariant-loop-n l = Advances l.leaf l.initial.at l.initial.rows l.many 0 0 l.at l.rows l.count l.n 0

@@ -1,13 +1,9 @@
 -- `arity` meets its contract. Assumes nothing.
-use native.Mathlib.Omega.{arith}
 use Rattle.forms.proofs.FormLaws.{arity-read, place-below, type-small}
 use Rattle.forms.proofs.arity.Goals as goal
 
 pub bounds-table-t : goal.bounds-table-t
 bounds-table-t c = type-small c.args.forms c.requires.forms_fit c.args.t c.requires.t_in_bounds
-
-pub overflow_add-w : goal.overflow_add-w
-overflow_add-w c = omega (arith, place-below c.args.forms c.requires.forms_fit c.args.t c.args.v c.requires.t_in_bounds c.requires.v_in_bounds)
 
 pub bounds-table-w : goal.bounds-table-w
 bounds-table-w c = place-below c.args.forms c.requires.forms_fit c.args.t c.args.v c.requires.t_in_bounds c.requires.v_in_bounds

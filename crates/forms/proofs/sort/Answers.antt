@@ -6,12 +6,6 @@ use Rattle.forms.proofs.sort.Goals as goal
 pub bounds-table-t : goal.bounds-table-t
 bounds-table-t c = type-small c.args.forms c.requires.forms_fit c.args.t c.requires.t_in_bounds
 
-pub overflow_add-w : goal.overflow_add-w
-overflow_add-w c = omega (arith, place-below c.args.forms c.requires.forms_fit c.args.t c.args.v c.requires.t_in_bounds c.requires.v_in_bounds)
-
-pub overflow_mul-result : goal.overflow_mul-result
-overflow_mul-result c = omega (arith, place-below c.args.forms c.requires.forms_fit c.args.t c.args.v c.requires.t_in_bounds c.requires.v_in_bounds)
-
 pub overflow_add-result : goal.overflow_add-result
 overflow_add-result c = omega (arith, place-below c.args.forms c.requires.forms_fit c.args.t c.args.v c.requires.t_in_bounds c.requires.v_in_bounds, fields-three c.args.forms c.requires.forms_fit c.args.t c.args.v, c.requires.p_in_bounds)
 

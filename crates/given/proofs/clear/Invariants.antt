@@ -1,11 +1,6 @@
--- `clear` meets its contract. Invariant: the terms so far are cleared. Assumes nothing.
-use Prim.Native.Nat.{◌≤◌, ◌-◌}
-use Rattle.guard.specs.Closure.{every_variant}
-use Rattle.given.proofs.Cleared.{Filled}
+-- `clear` meets its contract. Invariant: the terms so far are in classes of their own. Assumes nothing.
+use Rattle.std.proofs.Common.{◌≡◌, ℕ, ◌<◌, get_or, length}
 use Rattle.given.proofs.clear.Given as goal
 
 abbrev pub invariant-loop-x : goal.invariant-loop-x
-invariant-loop-x l = (l.x ≤ 96) × Filled (λ i. i) 96 l.x l.classes × Filled (λ i. every_variant) 96 l.x l.labels
-
-abbrev pub decreases-loop-x : goal.decreases-loop-x
-decreases-loop-x l = 96 - l.x
+invariant-loop-x l = record { long : length l.classes ≡ 96; own : (k : ℕ) → k < l.x → get_or l.classes k 0 ≡ k }

@@ -1,12 +1,9 @@
 -- `rounds` meets its contract. Invariant: the rounds so far are drawn. Assumes nothing.
-use Prim.Native.Nat.{◌*◌, ◌-◌, ◌≤◌}
+use Prim.Native.Nat.{◌*◌}
 use Rattle.growth.proofs.Growth.{period_of}
 use Rattle.forms.specs.Forms.{types_in}
 use Rattle.growthrows.proofs.StepLaws.{Grew}
 use Rattle.growthrows.proofs.rounds.Given as goal
 
-abbrev pub invariant-loop-k : goal.invariant-loop-k
-invariant-loop-k l = (l.k ≤ l.turns) × Grew (types_in l.forms) l.initial.rows l.many l.initial.drawn l.row (l.k * period_of (types_in l.forms) l.t) l.t l.rows l.count l.drawn l.at
-
-abbrev pub decreases-loop-k : goal.decreases-loop-k
-decreases-loop-k l = l.turns - l.k
+abbrev pub invariant-loop : goal.invariant-loop
+invariant-loop l = Grew (types_in l.forms) l.initial.rows l.many l.initial.drawn l.row (l.counter * period_of (types_in l.forms) l.t) l.t l.rows l.count l.drawn l.at

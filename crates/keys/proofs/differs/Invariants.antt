@@ -1,12 +1,8 @@
--- `differs` meets its contract. Invariant: if none differs so far, all agree so far. Assumes nothing.
+-- Invariant: if none differs so far, all agree so far. Assumes nothing.
 use mathlib.Core.Path.{◌≡◌}
 use mathlib.Core.Bool.{false}
-use Prim.Native.Nat.{◌-◌, ◌≤◌}
 use Rattle.keys.specs.Keys.{Agreed}
 use Rattle.keys.proofs.differs.Given as goal
 
 abbrev pub invariant-loop-i : goal.invariant-loop-i
-invariant-loop-i l = (l.i ≤ l.k) × (l.any ≡ false → Agreed l.parts l.owners l.k l.i)
-
-abbrev pub decreases-loop-i : goal.decreases-loop-i
-decreases-loop-i l = l.k - l.i
+invariant-loop-i l = l.any ≡ false → Agreed l.parts l.owners l.k l.i

@@ -1,6 +1,5 @@
--- `pass_all_keyed` meets its contract. Invariant: the shapes so far are passed, and nothing has changed. Assumes nothing.
+-- Invariant: the shapes so far are passed, and nothing has changed. Assumes nothing.
 use mathlib.Core.Bool.{false}
-use Prim.Native.Nat.{◌≤◌, ◌-◌}
 use Rattle.classes.specs.Held.{Held, state}
 use Rattle.passes.specs.Pass.{Pass}
 use Rattle.passes.proofs.PassLaws.{up_to}
@@ -8,7 +7,7 @@ use Rattle.congruence.specs.Due.{shape_due}
 use Rattle.keys.proofs.pass_all_keyed.Given as goal
 
 abbrev pub invariant-loop-k : goal.invariant-loop-k
-invariant-loop-k l = (l.k ≤ 30) × Pass (up_to (λ j x. shape_due l.shapes x j) l.k) (state l.initial.classes l.initial.labels) (state l.classes l.labels) false × Held l.classes
-
-abbrev pub decreases-loop-k : goal.decreases-loop-k
-decreases-loop-k l = 30 - l.k
+invariant-loop-k l = record {
+  held : Held l.classes;
+  pass : Pass (up_to (λ j x. shape_due l.shapes x j) l.k) (state l.initial.classes l.initial.labels) (state l.classes l.labels) false;
+}

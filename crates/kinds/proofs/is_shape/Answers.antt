@@ -1,7 +1,6 @@
 -- `is_shape` meets its contract. Assumes nothing.
 use mathlib.Core.Path.{◌∙◌, ap, sym}
 use Prim.Native.Nat.{ℕ}
-use native.Mathlib.Omega.{arith}
 use lib.Dec.{eqb}
 use Rattle.loops.proofs.Tests.{no_and, yes_and}
 use Rattle.kinds.specs.Found.{is_shape}
@@ -10,12 +9,6 @@ use Rattle.kinds.proofs.is_shape.Goals as goal
 pub returns-then-not-active : goal.returns-then-not-active
 unfolding is_shape
 returns-then-not-active c = no_and _ (sym c.active.ensures ∙ c.if-not-active.true)
-
-pub overflow_cast-shapes : goal.overflow_cast-shapes
-overflow_cast-shapes c = omega (arith, c.requires.shapes_fit.owner c.args.k c.requires.k_bound)
-
-pub class_of-requires : goal.class_of-requires
-class_of-requires c = c.requires.shapes_fit.owner c.args.k c.requires.k_bound
 
 pub returns : goal.returns
 unfolding is_shape

@@ -1,7 +1,6 @@
 -- `label_builds` meets its contract. Invariant: the shapes so far are labelled. Assumes nothing.
 use mathlib.Core.List.{foldl}
 use mathlib.Core.Path.{◌≡◌}
-use Prim.Native.Nat.{◌≤◌, ◌-◌}
 use Rattle.guard.specs.Closure.{add}
 use Rattle.classes.specs.Held.{state}
 use Rattle.labelfacts.specs.Labels.{one_variant_at}
@@ -9,7 +8,4 @@ use Rattle.facts.proofs.Adding.{up_to}
 use Rattle.labelfacts.proofs.label_builds.Given as goal
 
 abbrev pub invariant-loop-slot : goal.invariant-loop-slot
-invariant-loop-slot l = (l.slot ≤ 30) × (state l.classes l.labels ≡ foldl add (state l.classes l.initial.labels) (up_to (one_variant_at l.shapes) l.slot))
-
-abbrev pub decreases-loop-slot : goal.decreases-loop-slot
-decreases-loop-slot l = 30 - l.slot
+invariant-loop-slot l = state l.classes l.labels ≡ foldl add (state l.classes l.initial.labels) (up_to (one_variant_at l.shapes) l.slot)

@@ -1,7 +1,6 @@
 -- `label_terms` meets its contract. Invariant: the terms so far are labelled. Assumes nothing.
 use mathlib.Core.List.{foldl}
 use mathlib.Core.Path.{◌≡◌}
-use Prim.Native.Nat.{◌≤◌, ◌-◌}
 use Rattle.guard.specs.Closure.{add}
 use Rattle.classes.specs.Held.{state}
 use Rattle.labelfacts.specs.Labels.{all_variants_at}
@@ -9,7 +8,4 @@ use Rattle.facts.proofs.Adding.{up_to}
 use Rattle.labelfacts.proofs.label_terms.Given as goal
 
 abbrev pub invariant-loop-x : goal.invariant-loop-x
-invariant-loop-x l = (l.x ≤ 78) × (state l.classes l.labels ≡ foldl add (state l.classes l.initial.labels) (up_to (all_variants_at l.sorts l.full) l.x))
-
-abbrev pub decreases-loop-x : goal.decreases-loop-x
-decreases-loop-x l = 78 - l.x
+invariant-loop-x l = state l.classes l.labels ≡ foldl add (state l.classes l.initial.labels) (up_to (all_variants_at l.sorts l.full) l.x)

@@ -6,9 +6,6 @@ use Rattle.levels.proofs.is_cyclic.Goals as goal
 pub loop-init : goal.loop-init
 loop-init c = let a = c.args in from_top a.shapes.now (state a.classes.now a.labels.now)
 
-pub loop-smaller : goal.loop-smaller
-loop-smaller c = c.sink_all.ensures.falls c.loop-test.true
-
 pub loop-preserved : goal.loop-preserved
 loop-preserved c = let a = c.args in
     sinks_on a.shapes.now (state a.classes.now a.labels.now) c.loop.invariant c.sink_all.ensures.steps
@@ -18,6 +15,3 @@ returns c = let a = c.args in
     let l = c.loop in
     let f = c.sink_all in
     told a.shapes.now (state a.classes.now a.labels.now) c.requires.held l.levels l.invariant f.result c.is_bottomed.result c.loop-test.false f.ensures c.is_bottomed.ensures
-
-pub is_bottomed-requires : goal.is_bottomed-requires
-is_bottomed-requires c = tt

@@ -1,7 +1,6 @@
 -- `assert_literals` meets its contract. Invariant: the literals so far are asserted. Assumes nothing.
 use mathlib.Core.List.{foldl}
 use mathlib.Core.Path.{◌≡◌}
-use Prim.Native.Nat.{◌≤◌, ◌-◌}
 use Rattle.guard.specs.Closure.{add}
 use Rattle.classes.specs.Held.{Held, state}
 use Rattle.literalfacts.specs.Literals.{literal_at}
@@ -9,7 +8,7 @@ use Rattle.facts.proofs.Adding.{up_to}
 use Rattle.literalfacts.proofs.assert_literals.Given as goal
 
 abbrev pub invariant-loop-j : goal.invariant-loop-j
-invariant-loop-j l = (l.j ≤ l.many) × (state l.classes l.labels ≡ foldl add (state l.initial.classes l.initial.labels) (up_to (literal_at l.kinds l.terms l.others) l.j)) × Held l.classes
-
-abbrev pub decreases-loop-j : goal.decreases-loop-j
-decreases-loop-j l = l.many - l.j
+invariant-loop-j l = record {
+  held : Held l.classes;
+  asserted : state l.classes l.labels ≡ foldl add (state l.initial.classes l.initial.labels) (up_to (literal_at l.kinds l.terms l.others) l.j);
+}

@@ -1,6 +1,5 @@
 -- `put_literals`: the bytes of the literals before i stand in the buffer. Assumes nothing.
 use mathlib.Core.List.{List}
-use Prim.Native.Nat.{◌-◌, ◌≤◌}
 use Rattle.guard.specs.Guard.{Literal, Row}
 use Rattle.guard.specs.Types.{Types}
 use Rattle.heldparts.specs.Held.{HoldsLiterals}
@@ -10,7 +9,4 @@ use Rattle.literalwriter.proofs.put_literals.Given as goal
 
 -- for all literals that the table may hold
 abbrev pub invariant-loop-i : goal.invariant-loop-i
-invariant-loop-i l = (l.i ≤ l.many) × ((ts : Types) (rs : List Row) (ls : List Literal) → HoldsLiterals l.literals ts rs ls → Behind (literal_bytes l.names) ls l.initial.out l.initial.end l.i l.out l.end)
-
-abbrev pub decreases-loop-i : goal.decreases-loop-i
-decreases-loop-i l = l.many - l.i
+invariant-loop-i l = (ts : Types) (rs : List Row) (ls : List Literal) → HoldsLiterals l.literals ts rs ls → Behind (literal_bytes l.names) ls l.initial.out l.initial.end l.i l.out l.end

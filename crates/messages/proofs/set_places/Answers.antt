@@ -9,7 +9,7 @@ use Rattle.messages.proofs.PlaceLaws.{places_all, places_next, places_none}
 use Rattle.messages.proofs.set_places.Goals as goal
 
 pub loop-i-init : goal.loop-i-init
-loop-i-init c = let a = c.args in (omega arith, places_none a.classes.now a.at.now a.places.now a.many)
+loop-i-init c = let a = c.args in places_none a.classes.now a.at.now a.places.now a.many
 
 pub bounds-classes-i : goal.bounds-classes-i
 bounds-classes-i c = omega (arith, c.loop-i-test.true, c.requires.many_bound)
@@ -24,24 +24,15 @@ pub offset_bounds-places-i : goal.offset_bounds-places-i
 offset_bounds-places-i c = record { fits = omega (arith, c.loop-i-test.true, c.requires.many_bound) }
 
 pub bounds-places-i : goal.bounds-places-i
-bounds-places-i c = omega (arith, c.loop-i-test.true, c.requires.many_bound, c.requires.many_in_bounds, c.loop-i.invariant.1.long)
-
-pub overflow_add-i : goal.overflow_add-i
-overflow_add-i c = record { fits = omega (arith, c.loop-i-test.true, c.requires.many_bound) }
-
-pub loop-i-smaller : goal.loop-i-smaller
-loop-i-smaller c = omega (arith, c.loop-i-test.true)
+bounds-places-i c = omega (arith, c.loop-i-test.true, c.requires.many_bound, c.requires.many_in_bounds, c.loop-i.invariant.long)
 
 pub loop-i-preserved : goal.loop-i-preserved
 loop-i-preserved c = let a = c.args in
-    let l = c.loop-i in (
-      omega (arith, c.loop-i-test.true),
-      places_next a.classes.now a.at.now a.places.now a.many l.i l.places _ c.loop-i-test.true (omega (arith, c.requires.many_bound, c.requires.many_in_bounds)) l.invariant.1
-          (to_z_pos w32 {n = c.row_at.result} (omega (arith, c.row_at.ensures, c.requires.at_low (get_or c.args.classes.now c.loop-i.i 0))) ∙ ap pos c.row_at.ensures),
-    )
+    let l = c.loop-i in places_next a.classes.now a.at.now a.places.now a.many l.i l.places _ c.loop-i-test.true (omega (arith, c.requires.many_bound, c.requires.many_in_bounds)) l.invariant
+          (to_z_pos w32 {n = c.row_at.result} (omega (arith, c.row_at.ensures, c.requires.at_low (get_or c.args.classes.now c.loop-i.i 0))) ∙ ap pos c.row_at.ensures)
 
 pub shape_of-places : goal.shape_of-places
-shape_of-places c = c.loop-i.invariant.1.long
+shape_of-places c = c.loop-i.invariant.long
 
 pub returns : goal.returns
-returns c = let a = c.args in let l = c.loop-i in places_all a.classes.now a.at.now a.places.now a.many l.i l.places (omega (arith, c.loop-i-test.false)) l.invariant.1
+returns c = let a = c.args in let l = c.loop-i in places_all a.classes.now a.at.now a.places.now a.many l.i l.places (omega (arith, c.loop-i-test.false)) l.invariant

@@ -1,19 +1,12 @@
 -- `follow` meets its contract. Assumes nothing.
 use mathlib.Core.Path.{◌∙◌, sym}
-use native.Mathlib.Omega.{arith}
 use Rattle.classes.specs.Held.{state}
-use Rattle.needed.proofs.Marking.{followed, leads-yes, not_active, not_led}
+use Rattle.needed.proofs.Marking.{leads-yes, not_active, not_led}
 use Rattle.needed.proofs.follow.Goals as goal
 
 pub returns-then-not-active : goal.returns-then-not-active
 returns-then-not-active c = let a = c.args in
     not_active a.shapes.now (state a.classes.now a.labels.now) a.start a.k a.spare.now (sym c.active.ensures ∙ c.if-not-active.true)
-
-pub leads-requires : goal.leads-requires
-leads-requires c = record {
-  x_bound = omega (arith, c.owner.ensures, c.requires.shapes_fit.owner c.args.k c.requires.k_bound);
-  held = c.requires.held;
-}
 
 pub returns-then-not-leads : goal.returns-then-not-leads
 returns-then-not-leads c = let a = c.args in
@@ -32,7 +25,3 @@ mark_parts-requires c = let a = c.args in
       k_value = active;
       leads = lead;
     }
-
-pub returns : goal.returns
-returns c = let a = c.args in
-    followed a.shapes.now (state a.classes.now a.labels.now) a.start a.k c.mark_parts.ensures

@@ -1,11 +1,7 @@
 -- `mark_rows` meets its contract. Invariant: the rows so far are marked. Assumes nothing.
 use mathlib.Core.Path.{◌≡◌}
-use Prim.Native.Nat.{◌-◌, ◌≤◌}
 use Rattle.needed.specs.Needed.{row_marks}
 use Rattle.needed.proofs.mark_rows.Given as goal
 
 abbrev pub invariant-loop-i : goal.invariant-loop-i
-invariant-loop-i l = (l.i ≤ l.rows) × (l.spare ≡ row_marks l.classes l.i l.initial.spare)
-
-abbrev pub decreases-loop-i : goal.decreases-loop-i
-decreases-loop-i l = l.rows - l.i
+invariant-loop-i l = l.spare ≡ row_marks l.classes l.i l.initial.spare

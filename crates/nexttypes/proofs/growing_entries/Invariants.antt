@@ -1,12 +1,8 @@
 -- `growing_entries` meets its contract. Invariant: the entries so far are those of the column. Assumes nothing.
 use mathlib.Core.Path.{◌≡◌}
-use Prim.Native.Nat.{◌-◌, ◌≤◌}
 use Rattle.columns.specs.Entries.{filled}
 use Rattle.nexttypes.specs.NextTypes.{growing_entry}
 use Rattle.nexttypes.proofs.growing_entries.Given as goal
 
 abbrev pub invariant-loop-t : goal.invariant-loop-t
-invariant-loop-t l = (l.t ≤ l.many) × (l.column ≡ filled 6 (growing_entry l.variants l.first l.arities) l.t)
-
-abbrev pub decreases-loop-t : goal.decreases-loop-t
-decreases-loop-t l = l.many - l.t
+invariant-loop-t l = l.column ≡ filled 6 (growing_entry l.variants l.first l.arities) l.t

@@ -1,12 +1,8 @@
 -- `after` meets its contract. Invariant: the type after the steps so far. Assumes nothing.
 use mathlib.Core.Path.{◌≡◌}
-use Prim.Native.Nat.{◌-◌, ◌≤◌, ◌<◌}
 use Rattle.growth.proofs.Orbit.{iterate}
 use Rattle.orbits.specs.Orbits.{on_to}
 use Rattle.orbits.proofs.after.Given as goal
 
-abbrev pub invariant-loop-k : goal.invariant-loop-k
-invariant-loop-k l = (l.k ≤ l.steps) × (l.u < 256) × (l.u ≡ iterate (on_to l.next) l.k l.t)
-
-abbrev pub decreases-loop-k : goal.decreases-loop-k
-decreases-loop-k l = l.steps - l.k
+abbrev pub invariant-loop : goal.invariant-loop
+invariant-loop l = l.u ≡ iterate (on_to l.next) l.counter l.t

@@ -1,11 +1,7 @@
 -- `variant_in` meets its contract. Invariant: no variant below is held and has fields. Assumes nothing.
-use Prim.Native.Nat.{◌-◌, ◌≤◌}
 use Rattle.loops.proofs.Loops.{NoneBelow}
 use Rattle.plans.specs.Chosen.{held_at}
 use Rattle.plans.proofs.variant_in.Given as goal
 
 abbrev pub invariant-loop-v : goal.invariant-loop-v
-invariant-loop-v l = (l.v ≤ l.many) × NoneBelow (held_at l.arities l.start l.label) l.v
-
-abbrev pub decreases-loop-v : goal.decreases-loop-v
-decreases-loop-v l = l.many - l.v
+invariant-loop-v l = NoneBelow (held_at l.arities l.start l.label) l.v

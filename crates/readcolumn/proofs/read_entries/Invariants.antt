@@ -1,12 +1,9 @@
--- `read_entries` meets its contract. Invariant: the rows so far are those of the column. Assumes nothing.
+-- Invariant: the rows so far are those of the column. Assumes nothing.
 use mathlib.Core.Path.{◌≡◌}
-use Prim.Native.Nat.{◌*◌, ◌-◌, ◌≤◌}
+use Prim.Native.Nat.{◌*◌}
 use Rattle.columns.specs.Entries.{filled}
 use Rattle.readcolumn.specs.Reads.{read_entry}
 use Rattle.readcolumn.proofs.read_entries.Given as goal
 
 abbrev pub invariant-loop-i : goal.invariant-loop-i
-invariant-loop-i l = (l.i ≤ 24) × (l.column ≡ filled 96 (read_entry l.kinds l.types l.variants l.parts) (4 * l.i))
-
-abbrev pub decreases-loop-i : goal.decreases-loop-i
-decreases-loop-i l = 24 - l.i
+invariant-loop-i l = l.column ≡ filled 96 (read_entry l.kinds l.types l.variants l.parts) (4 * l.i)

@@ -1,5 +1,4 @@
--- `pass_defaults` meets its contract. Invariant: the reads so far are passed. Assumes nothing.
-use Prim.Native.Nat.{◌≤◌, ◌-◌}
+-- Invariant: the reads so far are passed. Assumes nothing.
 use Rattle.classes.specs.Held.{Held, state}
 use Rattle.passes.specs.Pass.{Pass}
 use Rattle.passes.proofs.PassLaws.{up_to}
@@ -7,7 +6,7 @@ use Rattle.reads.specs.Due.{default_due}
 use Rattle.reads.proofs.pass_defaults.Given as goal
 
 abbrev pub invariant-loop-k : goal.invariant-loop-k
-invariant-loop-k l = (l.k ≤ 24) × Pass (up_to (λ j x. default_due l.reads x j) l.k) (state l.initial.classes l.initial.labels) (state l.classes l.labels) l.changed × Held l.classes
-
-abbrev pub decreases-loop-k : goal.decreases-loop-k
-decreases-loop-k l = 24 - l.k
+invariant-loop-k l = record {
+  held : Held l.classes;
+  pass : Pass (up_to (λ j x. default_due l.reads x j) l.k) (state l.initial.classes l.initial.labels) (state l.classes l.labels) l.changed;
+}

@@ -1,5 +1,4 @@
--- `pass_read` meets its contract. Invariant: the reads so far are passed. Assumes nothing.
-use Prim.Native.Nat.{◌≤◌, ◌-◌}
+-- Invariant: the reads so far are passed. Assumes nothing.
 use Rattle.classes.specs.Held.{Held, state}
 use Rattle.passes.specs.Pass.{Pass}
 use Rattle.passes.proofs.PassLaws.{up_to}
@@ -7,7 +6,7 @@ use Rattle.reads.specs.Due.{reads_meet}
 use Rattle.reads.proofs.pass_read.Given as goal
 
 abbrev pub invariant-loop-i : goal.invariant-loop-i
-invariant-loop-i l = (l.i ≤ l.k) × Pass (up_to (λ j x. reads_meet l.reads x l.k j) l.i) (state l.initial.classes l.initial.labels) (state l.classes l.labels) l.changed × Held l.classes
-
-abbrev pub decreases-loop-i : goal.decreases-loop-i
-decreases-loop-i l = l.k - l.i
+invariant-loop-i l = record {
+  held : Held l.classes;
+  pass : Pass (up_to (λ j x. reads_meet l.reads x l.k j) l.i) (state l.initial.classes l.initial.labels) (state l.classes l.labels) l.changed;
+}

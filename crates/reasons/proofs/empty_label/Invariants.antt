@@ -1,5 +1,4 @@
 -- `empty_label` meets its contract. Invariant: nothing is found in the list so far. Assumes nothing.
-use Prim.Native.Nat.{◌-◌}
 use Rattle.classes.specs.Held.{state}
 use Rattle.labelled.proofs.Covering.{NoneListed}
 use Rattle.reasons.specs.Reasons.{empty_at}
@@ -7,6 +6,3 @@ use Rattle.reasons.proofs.empty_label.Given as goal
 
 abbrev pub invariant-loop-i : goal.invariant-loop-i
 invariant-loop-i l = NoneListed (empty_at l.sorts l.full (state l.classes l.labels)) l.labelled l.i
-
-abbrev pub decreases-loop-i : goal.decreases-loop-i
-decreases-loop-i l = l.count - l.i

@@ -8,11 +8,8 @@ use Rattle.renaming.proofs.HeldWalk.{few-first, few-next, few-second, walk_as, w
 use Rattle.renaming.proofs.names_of.Goals as goal
 use Rattle.renaming.proofs.names_of.Goals.{else-is_taken, then-is_taken, Else-is_taken, In-loop-i, Then-is_taken}
 
-pub next_variable-x-requires : goal.next_variable-x-requires
-next_variable-x-requires c = record {
-  many_bound = few-first c.requires;
-  from_le_many = omega arith;
-}
+pub next_variable-x-requires-clause-many_bound : goal.next_variable-x-requires-clause-many_bound
+next_variable-x-requires-clause-many_bound c = few-first c.requires
 
 pub loop-i-init : goal.loop-i-init
 loop-i-init c = walk_begins c.next_variable-x.result c.next_variable-x.ensures
@@ -33,11 +30,8 @@ variable-below c = omega (arith, variable-inside c, few-first c.requires)
 next-below : (c : Else-is_taken) → c.loop-i.next < 49
 next-below c = omega (arith, few-next c.loop-i.invariant c.requires)
 
-pub next_variable-x-requires-then-is_taken : goal.next_variable-x-requires-then-is_taken
-next_variable-x-requires-then-is_taken c = record {
-  many_bound = few-first c.requires;
-  from_le_many = omega (arith, variable-inside c.before.before.before.before);
-}
+pub next_variable-x-requires-then-is_taken-clause-many_bound : goal.next_variable-x-requires-then-is_taken-clause-many_bound
+next_variable-x-requires-then-is_taken-clause-many_bound c = few-first c.requires
 
 -- ---- one row
 
@@ -64,9 +58,6 @@ bounds-skipped-i c = row_below c.before.before.before
 pub bounds-second-i-then-is_taken : goal.bounds-second-i-then-is_taken
 bounds-second-i-then-is_taken c = row_below c.before.before.before.before
 
-pub overflow_add-x : goal.overflow_add-x
-overflow_add-x c = omega (arith, variable-below c.before.before.before.before)
-
 pub overflow_cast-names-else-is_taken : goal.overflow_cast-names-else-is_taken
 overflow_cast-names-else-is_taken c = omega (arith, next-below c)
 
@@ -75,12 +66,6 @@ bounds-names-i-else-is_taken c = row_below c.before.before.before
 
 pub overflow_add-next : goal.overflow_add-next
 overflow_add-next c = omega (arith, next-below c)
-
-pub overflow_add-i : goal.overflow_add-i
-overflow_add-i c = omega arith
-
-pub loop-i-smaller : goal.loop-i-smaller
-loop-i-smaller c = omega arith
 
 pub bounds-second-i : goal.bounds-second-i
 bounds-second-i c = row_below c

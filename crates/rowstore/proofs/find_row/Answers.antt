@@ -5,7 +5,7 @@ use native.Mathlib.Omega.{arith}
 use mir.Syntax.{w32}
 use mir.Val.{of_z, to_z}
 use Rattle.rowstore.specs.Store.{row_found}
-use Rattle.rowstore.proofs.Numbers.{handed_on, found_here, found_nowhere, none_before, none_here}
+use Rattle.rowstore.proofs.Numbers.{handed_on, found_here, found_nowhere, none_here}
 use Rattle.rowstore.proofs.find_row.Goals as goal
 use Rattle.rowstore.proofs.find_row.Goals.{Start}
 
@@ -13,31 +13,16 @@ use Rattle.rowstore.proofs.find_row.Goals.{Start}
 numbers : (c : Start) → let a = c.args in (to_z w32 (of_z w32 a.tag) ∷ to_z w32 (of_z w32 a.a) ∷ to_z w32 (of_z w32 a.b) ∷ to_z w32 (of_z w32 a.c) ∷ []) ≡ a.tag ∷ a.a ∷ a.b ∷ a.c ∷ []
 numbers c = handed_on c.ranges.tag c.ranges.a c.ranges.b c.ranges.c
 
-pub loop-i-init : goal.loop-i-init
-loop-i-init c = (omega arith, none_before c.args.rows.now c.args.start _)
+pub loop-i-preserved : goal.loop-i-preserved
+loop-i-preserved c = let l = c.loop-i in
+    none_here c.args.rows.now c.args.start _ l.i l.invariant (sym c.is_row.ensures ∙ c.if-is_row.false)
 
 pub returns-then-is_row : goal.returns-then-is_row
 returns-then-is_row c = let l = c.loop-i in
-    found_here c.args.rows.now c.args.start _ c.args.many l.i l.invariant.0 c.loop-i-test.true l.invariant.1 (sym c.is_row.ensures ∙ c.if-is_row.true)
+    found_here c.args.rows.now c.args.start _ c.args.many l.i (omega arith) c.loop-i-test.true l.invariant (sym c.is_row.ensures ∙ c.if-is_row.true)
     ∙ ap (row_found c.args.rows.now c.args.start c.args.many) (numbers c.before.before.before.before)
-
-pub loop-i-preserved : goal.loop-i-preserved
-loop-i-preserved c = let l = c.loop-i in
-    (omega arith, none_here c.args.rows.now c.args.start _ l.i l.invariant.1 (sym c.is_row.ensures ∙ c.if-is_row.false))
 
 pub returns : goal.returns
 returns c = let l = c.loop-i in
-    found_nowhere c.args.rows.now c.args.start _ c.args.many l.i c.loop-i-test.false l.invariant.1
+    found_nowhere c.args.rows.now c.args.start _ c.args.many l.i c.loop-i-test.false l.invariant
     ∙ ap (row_found c.args.rows.now c.args.start c.args.many) (numbers c.before.before)
-
-pub overflow_mul-i : goal.overflow_mul-i
-overflow_mul-i c = omega arith
-
-pub is_row-requires : goal.is_row-requires
-is_row-requires c = omega arith
-
-pub overflow_add-i : goal.overflow_add-i
-overflow_add-i c = omega arith
-
-pub loop-i-smaller : goal.loop-i-smaller
-loop-i-smaller c = omega arith

@@ -9,9 +9,6 @@ returns-then-t-ge6 c = no_variant_lem c.args.types c.args.t c.args.v (omega (ari
 pub returns-then-variants-t : goal.returns-then-variants-t
 returns-then-variants-t c = no_variant_lem c.args.types c.args.t c.args.v (omega arith)
 
-pub overflow_add-result : goal.overflow_add-result
-overflow_add-result c = omega (arith, c.requires.inside c.args.t c.args.v (omega arith))
-
 pub bounds-arities-first : goal.bounds-arities-first
 bounds-arities-first c = c.requires.inside c.args.t c.args.v (omega arith)
 

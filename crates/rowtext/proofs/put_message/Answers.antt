@@ -9,13 +9,6 @@ use Rattle.rowtext.specs.Rows.{made_text, parts_text}
 use Rattle.writing.proofs.Writing.{and_then, more_room, same_text}
 use Rattle.rowtext.proofs.put_message.Goals as goal
 
-pub put_parts-requires : goal.put_parts-requires
-put_parts-requires c = let a = c.args in
-    record {
-      many_bound = (omega (arith, c.arity.ensures, c.requires.arities_fit.few (tag_type a.tag) (tag_variant a.tag)), omega arith);
-      at_in_bounds = omega arith;
-    }
-
 pub returns : goal.returns
 unfolding made_text
 returns c = let a = c.args in

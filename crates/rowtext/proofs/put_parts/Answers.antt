@@ -9,11 +9,8 @@ use Rattle.rowtext.proofs.put_parts.Goals as goal
 pub returns-then-many-eq0 : goal.returns-then-many-eq0
 returns-then-many-eq0 c = same_text (sym (no-parts _ _ c.args.many c.if-many-eq0.true)) (more_room 42 (omega arith) (nothing (omega arith)))
 
-pub loop-p-init : goal.loop-p-init
-loop-p-init c = (omega arith, nothing (omega (arith, c.put_bytes-next.ensures)))
-
 pub loop-p-preserved : goal.loop-p-preserved
-loop-p-preserved c = (omega arith, next_turn (number_text c.args.rows.now) c.args.j c.loop-p.p 12 c.loop-p.invariant.1 c.put_number_at-next.ensures)
+loop-p-preserved c = next_turn (number_text c.args.rows.now) c.args.j c.loop-p.p 12 c.loop-p.invariant c.put_number_at-next.ensures
 
 pub returns : goal.returns
-returns c = same_text (sym (some-parts _ _ c.args.many c.loop-p.p c.if-many-eq0.false (omega arith))) (more_room 42 (omega arith) (and_then c.put_bytes-next.ensures c.loop-p.invariant.1))
+returns c = same_text (sym (some-parts _ _ c.args.many c.loop-p.p c.if-many-eq0.false (omega arith))) (more_room 42 (omega arith) (and_then c.put_bytes-next.ensures c.loop-p.invariant))

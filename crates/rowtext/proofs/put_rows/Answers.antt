@@ -1,16 +1,9 @@
 -- `put_rows`: the loop has put the lines of the first i rows. Assumes nothing.
 use mathlib.Core.Path.{ap}
-use native.Mathlib.Omega.{arith}
 use Rattle.rowtext.specs.Arity.{arity_in}
 use Rattle.rowtext.specs.Rows.{row_line}
-use Rattle.writing.proofs.Writing.{all_turns, from_zero, next_turn, nothing, same_text}
+use Rattle.writing.proofs.Writing.{from_zero, next_turn, same_text}
 use Rattle.rowtext.proofs.put_rows.Goals as goal
 
-pub loop-i-init : goal.loop-i-init
-loop-i-init c = (omega arith, nothing (omega arith))
-
 pub loop-i-preserved : goal.loop-i-preserved
-loop-i-preserved c = (omega arith, next_turn (row_line (arity_in c.args.types) c.args.rows.now) 0 c.loop-i.i 96 c.loop-i.invariant.1 (same_text (ap (row_line (arity_in c.args.types) c.args.rows.now) (from_zero c.loop-i.i)) c.put_row-next.ensures))
-
-pub returns : goal.returns
-returns c = all_turns (row_line (arity_in c.args.types) c.args.rows.now) 0 96 (omega arith) c.loop-i.invariant.1
+loop-i-preserved c = next_turn (row_line (arity_in c.args.types) c.args.rows.now) 0 c.loop-i.i 96 c.loop-i.invariant (same_text (ap (row_line (arity_in c.args.types) c.args.rows.now) (from_zero c.loop-i.i)) c.put_row-next.ensures)

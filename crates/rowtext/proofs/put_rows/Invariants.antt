@@ -1,5 +1,5 @@
 -- `put_rows`: the loop has put the lines of the first i rows. Assumes nothing.
-use Prim.Native.Nat.{◌*◌, ◌-◌, ◌≤◌}
+use Prim.Native.Nat.{◌*◌}
 use Rattle.laws.specs.Lists.{concat_map, from}
 use Rattle.writing.specs.Written.{Written}
 use Rattle.rowtext.specs.Arity.{arity_in}
@@ -7,7 +7,4 @@ use Rattle.rowtext.specs.Rows.{row_line}
 use Rattle.rowtext.proofs.put_rows.Given as goal
 
 abbrev pub invariant-loop-i : goal.invariant-loop-i
-invariant-loop-i l = (l.i ≤ l.many) × Written (96 * l.i) l.initial.out l.initial.next (concat_map (row_line (arity_in l.types) l.rows) (from l.i 0)) l.out l.next
-
-abbrev pub decreases-loop-i : goal.decreases-loop-i
-decreases-loop-i l = l.many - l.i
+invariant-loop-i l = Written (96 * l.i) l.initial.out l.initial.next (concat_map (row_line (arity_in l.types) l.rows) (from l.i 0)) l.out l.next

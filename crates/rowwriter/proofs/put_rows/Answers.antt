@@ -5,7 +5,7 @@ use Prim.Native.Nat.{ℕ, ◌+◌}
 use native.Mathlib.Omega.{arith}
 use borrow.Author.Tests.{not-false, not-true}
 use Rattle.rowterms.proofs.RowLaws.{some-place}
-use Rattle.rowwriter.proofs.Midway.{Midway, begin, finish, further, pass, same-long, too_long}
+use Rattle.rowwriter.proofs.Midway.{Midway, finish, further, pass, too_long}
 use Rattle.rowwriter.proofs.put_rows.Goals as goal
 use Rattle.rowwriter.proofs.put_rows.Goals.{else-skipped-r-eq0, then-skipped-r-eq0+else-not-end}
 
@@ -13,27 +13,11 @@ use Rattle.rowwriter.proofs.put_rows.Goals.{else-skipped-r-eq0, then-skipped-r-e
 moved : (P : ℕ → List ℕ → Type 0) {n n' : ℕ} {l l' : List ℕ} → n ≡ n' → l ≡ l' → P n' l' → P n l
 moved P {n} {n'} {l} {l'} e q p = subst (λ (k : ℕ). P k l) (sym e) (subst (P n') (sym q) p)
 
-pub loop-r-init : goal.loop-r-init
-loop-r-init c = let a = c.args in begin a.types a.rows a.names.now a.skipped.now a.out.now a.at c.requires.at_in_bounds
-
 pub bounds-skipped-r : goal.bounds-skipped-r
 bounds-skipped-r c = some-place c.requires.some_rows c.loop-r-test.true
 
-pub put_row-end-requires : goal.put_row-end-requires
-put_row-end-requires c = record {
-  some_rows = c.requires.some_rows;
-  r_lt_many = c.loop-r-test.true;
-  at_in_bounds = c.loop-r.invariant.room;
-}
-
-pub shape_of-out-then-not-end : goal.shape_of-out-then-not-end
-shape_of-out-then-not-end c = same-long c.loop-r.invariant c.requires.some_rows c.put_row-end.ensures
-
 pub returns-then-not-end : goal.returns-then-not-end
 returns-then-not-end c = too_long c.loop-r.invariant c.loop-r-test.true c.put_row-end.ensures c.if-skipped-r-eq0.true (not-true _ c.if-not-end.true)
-
-pub loop-r-smaller : goal.loop-r-smaller
-loop-r-smaller c = omega arith
 
 pub loop-r-preserved : goal.loop-r-preserved
 loop-r-preserved c = let a = c.args in
@@ -42,9 +26,6 @@ loop-r-preserved c = let a = c.args in
       | then-skipped-r-eq0+else-not-end w ↦ moved Then w.next-is w.out-is (further c.loop-r.invariant c.loop-r-test.true w.put_row-end.ensures w.if-skipped-r-eq0.true c.requires.some_rows (not-false _ w.if-not-end.false))
       | else-skipped-r-eq0 w ↦ moved Then w.next-is w.out-is (pass c.loop-r.invariant c.loop-r-test.true w.if-skipped-r-eq0.false)
     ]
-
-pub shape_of-out : goal.shape_of-out
-shape_of-out c = c.loop-r.invariant.long
 
 pub returns : goal.returns
 returns c = finish c.loop-r.invariant (omega arith)

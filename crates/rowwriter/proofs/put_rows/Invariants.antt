@@ -1,10 +1,6 @@
 -- `put_rows`: the rows before r stand in the buffer, where they aren't skipped. Assumes nothing.
-use Prim.Native.Nat.{◌-◌}
 use Rattle.rowwriter.proofs.Midway.{Midway}
 use Rattle.rowwriter.proofs.put_rows.Given as goal
 
 abbrev pub invariant-loop-r : goal.invariant-loop-r
 invariant-loop-r l = Midway l.types l.rows l.names l.skipped l.initial.out l.at l.r l.next l.out
-
-abbrev pub decreases-loop-r : goal.decreases-loop-r
-decreases-loop-r l = l.rows.many - l.r

@@ -6,7 +6,10 @@ use Rattle.saturation.specs.Due.{all_due}
 use Rattle.saturation.proofs.saturate.Given as goal
 
 abbrev pub invariant-loop : goal.invariant-loop
-invariant-loop l = Steps (all_due l.shapes l.reads l.sorts l.fieldless) (state l.initial.classes l.initial.labels) (state l.classes l.labels) × Held l.classes
+invariant-loop l = record {
+  held : Held l.classes;
+  steps : Steps (all_due l.shapes l.reads l.sorts l.fieldless) (state l.initial.classes l.initial.labels) (state l.classes l.labels);
+}
 
 abbrev pub decreases-loop : goal.decreases-loop
 decreases-loop l = size (state l.classes l.labels)

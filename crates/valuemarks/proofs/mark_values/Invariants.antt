@@ -1,6 +1,5 @@
 -- `mark_values`: from the last row to the first. Assumes nothing.
 use mathlib.Core.Path.{◌≡◌}
-use Prim.Native.Nat.{◌≤◌}
 use mathlib.Core.List.{List}
 use Prim.Native.Nat.{ℕ}
 use lib.ListN.{length}
@@ -16,7 +15,4 @@ abbrev pub AllMidway : TypeTable → RowTable → ℕ → ℕ → ℕ → List �
 AllMidway types rows end at r marks = (g : Guard) → Listed types rows g → end ≡ length (until_lines g) → Midway g at r marks
 
 abbrev pub invariant-loop-r : goal.invariant-loop-r
-invariant-loop-r l = (l.r ≤ l.rows.many) × (length l.marks ≡ 640) × AllMidway l.types l.rows l.end l.at l.r l.marks
-
-abbrev pub decreases-loop-r : goal.decreases-loop-r
-decreases-loop-r l = l.r
+invariant-loop-r l = AllMidway l.types l.rows l.end l.at l.r l.marks

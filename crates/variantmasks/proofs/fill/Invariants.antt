@@ -1,6 +1,5 @@
 -- `fill` meets its contract. Invariant: the rows so far stand in front of what was there. Assumes nothing.
 use mathlib.Core.Path.{◌≡◌}
-use Prim.Native.Nat.{◌-◌, ◌≤◌}
 use lib.ListN.{length}
 use Rattle.guard.specs.Guard.{Guard}
 use Rattle.summaries.specs.InTables.{InTables, longer}
@@ -8,7 +7,7 @@ use Rattle.variantmasks.proofs.FillLaws.{partly}
 use Rattle.variantmasks.proofs.fill.Given as goal
 
 abbrev pub invariant-loop-i : goal.invariant-loop-i
-invariant-loop-i l = (l.i ≤ 24) × (length l.summary ≡ length l.initial.summary) × ((g : Guard) → InTables longer l.types l.rows l.lines g → l.summary ≡ partly l.budget l.anew l.initial.summary g l.i)
-
-abbrev pub decreases-loop-i : goal.decreases-loop-i
-decreases-loop-i l = 24 - l.i
+invariant-loop-i l = record {
+  long : length l.summary ≡ length l.initial.summary;
+  so_far : (g : Guard) → InTables longer l.types l.rows l.lines g → l.summary ≡ partly l.budget l.anew l.initial.summary g l.i;
+}

@@ -13,7 +13,7 @@ use Rattle.variantmasks.proofs.row_masks.Goals as goal
 use Rattle.variantmasks.proofs.row_masks.Goals.{After-bit_if-known, After-bit_if-there, In-loop-v}
 
 pub loop-v-init : goal.loop-v-init
-loop-v-init c = (omega arith, λ g held. (refl, refl))
+loop-v-init c = λ g held. (refl, refl)
 
 -- a variant that the loop comes to is there, whatever guard the tables hold
 below : (c : In-loop-v) (g : Guard) → let s = c.args in InTables longer s.types s.rows s.lines g → c.loop-v.v < variant_count g s.i
@@ -44,7 +44,7 @@ pub overflow_add-known : goal.overflow_add-known
 overflow_add-known c = let l = c.loop-v in
     let g = c.requires.guard in
     let held = c.requires.held in
-    omega (arith, mask_fits (λ u. not (eqb (number_by c.args.budget g c.args.settled c.args.possible c.args.i u) 3)) l.known l.v c.bit_if-known.result (l.invariant.1 g held).0 (small c.before.before) (known-bit c g held))
+    omega (arith, mask_fits (λ u. not (eqb (number_by c.args.budget g c.args.settled c.args.possible c.args.i u) 3)) l.known l.v c.bit_if-known.result (l.invariant g held).0 (small c.before.before) (known-bit c g held))
 
 pub bit_if-there-requires : goal.bit_if-there-requires
 bit_if-there-requires c = small c.before.before
@@ -53,23 +53,15 @@ pub overflow_add-there : goal.overflow_add-there
 overflow_add-there c = let l = c.loop-v in
     let g = c.requires.guard in
     let held = c.requires.held in
-    omega (arith, mask_fits (λ u. eqb (number_by c.args.budget g c.args.settled c.args.possible c.args.i u) 1) l.there l.v c.bit_if-there.result (l.invariant.1 g held).1 (small c.before.before.before) (there-bit c g held))
-
-pub overflow_add-v : goal.overflow_add-v
-overflow_add-v c = omega (arith, small c.before.before.before)
-
-pub loop-v-smaller : goal.loop-v-smaller
-loop-v-smaller c = omega arith
+    omega (arith, mask_fits (λ u. eqb (number_by c.args.budget g c.args.settled c.args.possible c.args.i u) 1) l.there l.v c.bit_if-there.result (l.invariant g held).1 (small c.before.before.before) (there-bit c g held))
 
 pub loop-v-preserved : goal.loop-v-preserved
 loop-v-preserved c = let l = c.loop-v in
     let s = c.args in
-    let near = small c.before.before.before in (
-      omega arith,
-      λ g held. (
-        mask_next (λ u. not (eqb (number_by s.budget g s.settled s.possible s.i u) 3)) l.known l.v c.bit_if-known.result (l.invariant.1 g held).0 near (known-bit c.before g held),
-        mask_next (λ u. eqb (number_by s.budget g s.settled s.possible s.i u) 1) l.there l.v c.bit_if-there.result (l.invariant.1 g held).1 near (there-bit c g held),
-      ),
+    let near = small c.before.before.before in
+    λ g held. (
+      mask_next (λ u. not (eqb (number_by s.budget g s.settled s.possible s.i u) 3)) l.known l.v c.bit_if-known.result (l.invariant g held).0 near (known-bit c.before g held),
+      mask_next (λ u. eqb (number_by s.budget g s.settled s.possible s.i u) 1) l.there l.v c.bit_if-there.result (l.invariant g held).1 near (there-bit c g held),
     )
 
 pub returns : goal.returns
@@ -77,6 +69,6 @@ returns c = let s = c.args in
     let l = c.loop-v in
     record {
       are = λ g held.
-          let last : l.v ≡ variant_count g s.i = omega (arith, l.invariant.0, c.variants_of-many.ensures.are longer s.lines g held) in
-          ((l.invariant.1 g held).0 ∙ ap (settled_by (number_by s.budget g s.settled s.possible s.i)) last, (l.invariant.1 g held).1 ∙ ap (possible_by (number_by s.budget g s.settled s.possible s.i)) last);
+          let last : l.v ≡ variant_count g s.i = omega (arith, c.variants_of-many.ensures.are longer s.lines g held) in
+          ((l.invariant g held).0 ∙ ap (settled_by (number_by s.budget g s.settled s.possible s.i)) last, (l.invariant g held).1 ∙ ap (possible_by (number_by s.budget g s.settled s.possible s.i)) last);
     }

@@ -5,9 +5,6 @@ use Rattle.writing.proofs.Writing.{more_room, same_text}
 use Rattle.writing.proofs.Decimals.{decimal_digits, nineteen_digits}
 use Rattle.writing.proofs.put_long.Goals as goal
 
-pub put_bytes-requires : goal.put_bytes-requires
-put_bytes-requires c = let d = c.decimal-k.ensures in omega (arith, d.in_bounds, nineteen_digits c.args.n _ d.len (omega arith))
-
 pub returns : goal.returns
 returns c = let d = c.decimal-k.ensures in
     let few = nineteen_digits c.args.n _ d.len (omega arith) in

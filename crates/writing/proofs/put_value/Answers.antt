@@ -8,35 +8,10 @@ use Rattle.writing.proofs.Writing.{and_then, more_room, same_text}
 use Rattle.writing.proofs.Signs.{signed_above, signed_below}
 use Rattle.writing.proofs.put_value.Goals as goal
 
-pub overflow_sub-value : goal.overflow_sub-value
-overflow_sub-value c = (negative c.args.value c.ranges.value c.if-value-lt0.true).fits
-
-pub overflow_cast-value : goal.overflow_cast-value
-overflow_cast-value c = rw (negative c.args.value c.ranges.value c.if-value-lt0.true).less (tt, record { fits = omega (arith, (negative c.args.value c.ranges.value c.if-value-lt0.true).small) })
-
-pub overflow_add-value : goal.overflow_add-value
-overflow_add-value c = rw (negative c.args.value c.ranges.value c.if-value-lt0.true).less (record { fits = omega (arith, (negative c.args.value c.ranges.value c.if-value-lt0.true).small) })
-
-pub put_long-requires : goal.put_long-requires
-put_long-requires c = let n = (negative c.args.value c.ranges.value c.if-value-lt0.true) in
-    record {
-      n_bound = rw n.less (omega (arith, n.small));
-      at_in_bounds = omega (arith, c.put_bytes-next.ensures);
-    }
-
 pub returns-then-value-lt0 : goal.returns-then-value-lt0
 returns-then-value-lt0 c = let n = (negative c.args.value c.ranges.value c.if-value-lt0.true) in
     same_text (signed_below _ n.k _ n.is (ap (λ (z : ℤ). nat_abs z + 1) n.less ∙ omega arith))
     (and_then c.put_bytes-next.ensures c.put_long.ensures)
-
-pub overflow_cast-value-2 : goal.overflow_cast-value-2
-overflow_cast-value-2 c = rw (not_negative c.args.value c.ranges.value c.if-value-lt0.false).same (tt, record { fits = omega (arith, (not_negative c.args.value c.ranges.value c.if-value-lt0.false).small) })
-
-pub put_long-requires-2 : goal.put_long-requires-2
-put_long-requires-2 c = record {
-  n_bound = rw (not_negative c.args.value c.ranges.value c.if-value-lt0.false).same (omega (arith, (not_negative c.args.value c.ranges.value c.if-value-lt0.false).small));
-  at_in_bounds = omega arith;
-}
 
 pub returns : goal.returns
 returns c = let n = (not_negative c.args.value c.ranges.value c.if-value-lt0.false) in

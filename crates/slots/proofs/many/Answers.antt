@@ -1,7 +1,0 @@
--- `many` meets its contract. Assumes nothing.
-use native.Mathlib.Omega.{arith}
-use native.Mathlib.Omega.{arith}
-use Rattle.slots.proofs.many.Goals as goal
-
-pub overflow_cast-result : goal.overflow_cast-result
-overflow_cast-result c = omega (arith, c.requires.shapes_fit.many c.args.k c.requires.k_bound)
