@@ -1,64 +1,31 @@
 -- A list that is taken: its guard, its tokens, and the tables that its reader gave. Assumes nothing.
 use mathlib.Core.Path.{◌≡◌, refl, ap, ap₂, sym, subst, ◌∙◌}
 use mathlib.Core.List.{List, [], ◌∷◌, map}
-use Prim.Native.Nat.{ℕ, ◌+◌, ◌*◌, ◌≤◌}
+use Prim.Native.Nat.{ℕ, ◌+◌, ◌-◌, ◌*◌, ◌≤◌}
 use native.Mathlib.Omega.{arith}
 use lib.IntN.{ℤ}
 use lib.ListN.{length, length-append, length-map}
 use Rattle.laws.specs.Lists.{concat_map}
 use Rattle.guard.specs.Guard.{Guard, Literal, Literal.equal, Literal.is, Literal.isnt, Literal.unequal, Row, Row.built, Row.constant, Row.field, Row.variable, type_of}
 use Rattle.guard.specs.Limits.{base}
-use Rattle.guard.specs.Number.{Parsed, Parsed.accepted, Parsed.refused, fold_signed}
+use Rattle.guard.specs.Number.{fold_signed}
 use Rattle.guard.specs.Types.{Types}
 use Rattle.guard.proofs.Accepted.{accepted-length, accepted-total, accepted_well_formed}
 use Rattle.guard.proofs.Claims.{base-supported}
 use Rattle.tables.specs.Layout.{literal_table, pad, row_kind, row_table, row_variant, type_table}
 use Rattle.reader.specs.declared.Tables.{Tables}
-use Rattle.reader.specs.Reader.{guard_tables, no_tables}
+use Rattle.reader.specs.Reader.{guard_tables}
 use Rattle.encoding.proofs.ReadBack.{one-at_least, value-one-at_least}
 use Rattle.serialize.specs.NumberList.{list_file}
 use Rattle.serialize.specs.Tokens.{Token, Token.plain, Token.value, bytes_of, guard_tokens, listed, literal_tokens, numbers_of, token_bytes}
 use Rattle.serialize.proofs.Theorems.{read_as_list, tokens-fit}
 use Rattle.bytebuffer.specs.declared.End.{End}
 use Rattle.bytebuffer.specs.Puts.{Puts}
-use Rattle.listreader.specs.ListReader.{ReadsList, valueless, valueless_row, valueless_rows}
-use Rattle.serialize.proofs.Questions.{list_question}
-use Rattle.valuemarks.specs.Marks.{Listed, marks_of, room, until_lines}
+use Rattle.listreader.specs.ListReader.{Taken, valueless_row, valueless_rows}
+use Rattle.valuemarks.specs.Marks.{Listed, MarksValues, marks_of, room, until_lines}
 use Rattle.valuemarks.proofs.Midway.{all-length, lines}
 use Rattle.filewriter.specs.Marking.{Marked}
 use Rattle.filewriter.proofs.TokenLaws.{bytes}
-
--- ---- refused lists
-
-refused-is : (q : ℕ) → (no_tables q).refused ≡ q
-unfolding no_tables
-refused-is q = refl
-
-taken_is : (g : Guard) → (guard_tables g).refused ≡ 0
-unfolding guard_tables
-taken_is g = refl
-
--- a list that is refused has tables that say so
-pub refused_list : (p : Parsed Guard) (t : Tables) → ReadsList p t → ¬ (t.refused ≡ 0) → p ≡ refused t.refused
-refused_list (refused q) t e h = ap refused (sym (ap (λ (x : Tables). x.refused) e ∙ refused-is q))
-refused_list (accepted g rest) t (k, e, s) h = absurd (h (ap (λ (x : Tables). x.refused) e ∙ taken_is k))
-
--- ---- lists that are taken
-
-pub record Taken (zs : List ℤ) (t : Tables) : Type 0 where
-  pub guard : Guard
-  pub rest : List ℕ
-  pub is : list_file base zs ≡ accepted guard rest
-  pub shown : Guard
-  pub tables : t ≡ guard_tables shown
-  pub same : valueless shown ≡ valueless guard
-
-pub taken : (zs : List ℤ) (t : Tables) → ReadsList (list_file base zs) t → t.refused ≡ 0 → Taken zs t
-taken zs t r z = go (list_file base zs) refl r
-  where
-    go : (p : Parsed Guard) → list_file base zs ≡ p → ReadsList p t → Taken zs t
-    go (refused q) e h = absurd (omega (arith, list_question base zs q e, sym (ap (λ (x : Tables). x.refused) h ∙ refused-is q) ∙ z))
-    go (accepted g rest) e (h, i, s) = record { guard = g; rest = rest; is = e; shown = h; tables = i; same = s }
 
 -- ---- columns of rows don't show values
 
@@ -101,7 +68,7 @@ lines-length (unequal i j ∷ ls) = omega (arith, lines-length ls)
 lines-length (is i v ∷ ls) = omega (arith, lines-length ls)
 lines-length (isnt i v ∷ ls) = omega (arith, lines-length ls)
 
-module _ {zs : List ℤ} {t : Tables} (k : Taken zs t) where
+module _ (zs : List ℤ) {t : Tables} (k : Taken (list_file base zs) t) where
   abbrev g : Guard
   g = k.guard
 
@@ -145,12 +112,15 @@ module _ {zs : List ℤ} {t : Tables} (k : Taken zs t) where
       ap length bytes_read.1 ∙ length-map (guard_tokens g) listed ∙ all-length g
       ∙ (let e : length (lines g) ≡ 1 + 3 * t.literals.many = omega (arith, lines-length g.literals, lines-many) in ap (λ (n : ℕ). length (until_lines g) + n) e)
 
+  pub rows_end : length zs - 1 - 3 * t.literals.many ≡ length (until_lines g)
+  rows_end = omega (arith, list_length)
+
   pub lines-few : t.literals.many ≤ 32
   lines-few = omega (arith, lines-many, listed-tables.well_formed_lem.line_count)
 
-  pub all-marked : (marks : List ℕ) → marks ≡ marks_of g → Marked zs marks (guard_tokens g)
+  pub all-marked : {marks : List ℕ} → MarksValues t.types t.rows (length zs - 1 - 3 * t.literals.many) marks → Marked zs marks (guard_tokens g)
   unfolding marks_of
-  all-marked marks e = record { are = bytes_read.1; marked = e; fit = tokens-fit base base-supported zs g k.rest k.is; short = bytes_read.2 }
+  all-marked m = let e = m.are g listed-tables rows_end in record { are = bytes_read.1; marked = e; fit = tokens-fit base base-supported zs g k.rest k.is; short = bytes_read.2 }
 
   -- ---- the answer
 

@@ -1,13 +1,15 @@
 // Writes a guard file from a list of its numbers, constants as their values. `specs/Writer.antt` says what it gives.
 #![tactic(auto)]
 
-ghost use Rattle.std.specs.Prelude.{◌≡◌, length};
+ghost use Rattle.std.specs.Prelude.{◌≡◌, ◌≢◌, length, IfErr};
 ghost use Rattle.guard.specs.Limits.{base};
+ghost use Rattle.guard.specs.Question.{number_of};
 ghost use Rattle.serialize.specs.NumberList.{list_file};
 ghost use Rattle.filewriter.specs.Marking.{HasTokens, NumberMarked, PutsTokens, WrittenAs};
-ghost use Rattle.filewriter.specs.Writer.{answer_to, left_by};
+ghost use Rattle.filewriter.specs.Writer.{Answered, answer_to, left_by};
 
 use bytebuffer::End;
+use guard::Question;
 
 // What a number of the list is written as. A value is folded.
 fn written_number(x: i64, mark: u8) -> u64
@@ -39,28 +41,15 @@ fn put_numbers(list: &[i64], marks: &[u8; 640], out: &mut [u8]) -> End
     End { fits: true, at }
 }
 
-// The question that refused a list, or 0 and the number of bytes of its file.
-#[derive(Clone, Copy)]
-pub struct FileWritten {
-    pub refused: u32,
-    pub bytes: usize,
-}
-
-// Fills the buffer with the bytes of the list and zeros behind them; with zeros alone where the list is refused, or its bytes
-// outgrow the buffer. Document 02, #104: "The writer's 3 no longer occurs."
-pub fn write(list: &[i64], out: &mut [u8]) -> FileWritten
-    ensures value { result ≡ answer_to (list_file base list.now) (length out.old) }
-    ensures not_result_refused { ¬ (result.refused ≡ 3) }
+// Fills the buffer with the bytes of the list and zeros behind them, and tells how many bytes they are; with zeros alone where the list
+// is refused, or its bytes outgrow the buffer. Document 02, #104: "The writer's 3 no longer occurs."
+pub fn write(list: &[i64], out: &mut [u8]) -> Result<usize, Question>
+    ensures value { Answered (answer_to (list_file base list.now) (length out.old)) result }
+    ensures not_malformed { IfErr result (λ q. number_of q ≢ 3) }
     ensures out_after { out.new ≡ left_by (list_file base list.now) (length out.old) }
 {
     bytebuffer::clear(out);
-    let t = listreader::read_list(list);
-    if t.refused != 0 {
-        return FileWritten {
-            refused: t.refused,
-            bytes: 0,
-        };
-    }
+    let t = listreader::read_list(list)?;
     let literals = t.literals;
     // Behind the rows stand L and three numbers for each line.
     let rows_end = list.len() - 1 - 3 * literals.many;
@@ -69,13 +58,7 @@ pub fn write(list: &[i64], out: &mut [u8]) -> FileWritten
     let end = put_numbers(list, &marks, out);
     if !end.fits {
         bytebuffer::clear(out);
-        return FileWritten {
-            refused: 14,
-            bytes: 0,
-        };
+        return Err(Question::FileTooLong);
     }
-    FileWritten {
-        refused: 0,
-        bytes: end.at,
-    }
+    Ok(end.at)
 }

@@ -2,17 +2,17 @@
 use mathlib.Core.Path.{◌≡◌, refl, ap, ap₂, sym, subst, ◌∙◌}
 use mathlib.Core.Bool.{true, false, false≢true}
 use mathlib.Core.List.{List, [], ◌∷◌, ◌++◌, map, map-append}
-use mathlib.Core.Logic.{◌⊎◌, inl, inr}
 use Prim.Native.Nat.{ℕ, ◌+◌, ◌≤◌, ◌<◌, min}
 use native.Mathlib.Numerals.{add-one}
 use native.Mathlib.Omega.{arith}
 use lib.IntN.{ℤ, pos, negsuc}
 use lib.ListN.{length, get_or, set, take, length-map, length-set, get_or-map}
-use lib.Seq.{take_all, take-suc, take-suc-set}
+use lib.Seq.{take-suc, take-suc-set}
 use lib.Signed.{lt_z}
 use mir.Syntax.{w64}
 use mir.Val.{SFits}
 use borrow.Author.Tests.{ltb-false, ltb-true}
+use Rattle.std.proofs.lemmas.List.{take_min}
 use Rattle.laws.specs.All.{All, All.more, All.none}
 use Rattle.laws.proofs.Lists.{all_append}
 use Rattle.guard.specs.Number.{fold_signed}
@@ -58,45 +58,38 @@ folded i list = take i (map fold_signed list)
 
 -- the first i bytes are written, and the numbers before are values
 pub record Front (list : List ℤ) (out : List ℕ) (i : ℕ) : Type 0 where
-  pub few : i ≤ room
-  pub within : i ≤ length list
   pub long : length out ≡ room
   pub bytes : take i out ≡ plain_of i (map fold_signed list)
   pub narrow : All Narrow (folded i list)
 
 module _ (list : List ℤ) (out : List ℕ) (i : ℕ) (front : Front list out i) where
   -- nothing is left, or no room
-  pub all-written : (length list ≤ i) ⊎ (room ≤ i) → Written list out i
-  all-written h =
+  pub all-written : i ≡ min (length list) room → Written list out i
+  all-written e =
+      let all : folded i list ≡ folded room list = let k : i ≡ min room (length (map fold_signed list)) = omega (arith, length-map list fold_signed) in rw k (take_min room (map fold_signed list)) in
       record {
-        few = front.few;
+        few = omega arith;
         long = front.long;
-        bytes = front.bytes ∙ ap (map plain_byte) (all h);
-        narrow = subst (All Narrow) (all h) front.narrow;
+        bytes = front.bytes ∙ ap (map plain_byte) all;
+        narrow = subst (All Narrow) all front.narrow;
       }
-    where
-      all : (length list ≤ i) ⊎ (room ≤ i) → folded i list ≡ folded room list
-      all (inl l) =
-          let long : length (map fold_signed list) ≤ i = omega (arith, length-map list fold_signed) in
-          take_all i (map fold_signed list) long ∙ sym (take_all room (map fold_signed list) (omega (arith, front.few)))
-      all (inr l) = let full : i ≡ room = omega (arith, front.few) in ap (λ (k : ℕ). folded k list) full
 
   -- a number more
-  module _ (x : ℤ) (b : ℕ) (fits : i < room) (there : i < length list) (at : get_or list i (pos 0) ≡ x) (byte : b ≡ plain_byte (fold_signed x)) (narrow : Narrow (fold_signed x)) where
-    one_more : folded (i + 1) list ≡ folded i list ++ (fold_signed x ∷ [])
+  module _ (b : ℕ) (fits : i < room) (there : i < length list) (byte : b ≡ plain_byte (fold_signed (get_or list i (pos 0)))) (narrow : Narrow (fold_signed (get_or list i (pos 0)))) where
+    abbrev w : ℕ
+    w = fold_signed (get_or list i (pos 0))
+
+    one_more : folded (i + 1) list ≡ folded i list ++ (w ∷ [])
     one_more =
-        let here : get_or (map fold_signed list) i 0 ≡ fold_signed x = get_or-map fold_signed list i (pos 0) ∙ ap fold_signed at in
-        rw add-one (take-suc (map fold_signed list) i 0 (omega (arith, length-map list fold_signed)) ∙ ap (λ (w : ℕ). folded i list ++ (w ∷ [])) here)
+        rw add-one (take-suc (map fold_signed list) i 0 (omega (arith, length-map list fold_signed)) ∙ ap (λ (w : ℕ). folded i list ++ (w ∷ [])) (get_or-map fold_signed list i (pos 0)))
 
     pub front-next : Front list (set out i b) (i + 1)
     front-next =
         let stored : take (i + 1) (set out i b) ≡ take i out ++ (b ∷ []) = rw add-one (take-suc-set out i b (omega (arith, front.long))) in
         record {
-          few = omega arith;
-          within = omega arith;
           long = length-set out i b ∙ front.long;
           bytes =
-              stored ∙ ap₂ (λ (bs : List ℕ) (c : ℕ). bs ++ (c ∷ [])) front.bytes byte ∙ sym (map-append plain_byte (folded i list) (fold_signed x ∷ []))
+              stored ∙ ap₂ (λ (bs : List ℕ) (c : ℕ). bs ++ (c ∷ [])) front.bytes byte ∙ sym (map-append plain_byte (folded i list) (w ∷ []))
               ∙ ap (map plain_byte) (sym one_more);
           narrow = subst (All Narrow) (sym one_more) (all_append front.narrow (more narrow none));
         }

@@ -5,9 +5,9 @@ use mathlib.Core.List.{List, [], ◌∷◌, ◌++◌, map-append}
 use Prim.Native.Nat.{ℕ, zero, suc, ◌+◌, ◌-◌, ◌*◌, ◌≤◌, ◌<◌}
 use native.Mathlib.Omega.{arith}
 use lib.Dec.{leb, ltb, eqb}
-use lib.ListN.{length, get_or, take, length-append, length-map, get_or-map}
+use lib.ListN.{length, take, length-append, length-map, get_or-map}
 use borrow.Author.Tests.{leb-true, ltb-true}
-use Rattle.laws.specs.All.{All, All.more, All.none}
+use Rattle.laws.specs.All.{All}
 use Rattle.laws.proofs.Bools.{and_left, and_right}
 use Rattle.guard.specs.File.{bytes, file}
 use Rattle.guard.specs.Grammar.{Source, count, ended, file_of, kind, literal, literal_of, name, parts, row_of, rows, term_and_variant, two_terms, types, variant, variant_term}
@@ -15,14 +15,13 @@ use Rattle.guard.specs.Guard.{Guard, Literal, Literal.equal, Literal.is, Literal
 use Rattle.guard.specs.Limits.{Limits, Supported, field_limit, total_variant_limit, variant_limit}
 use Rattle.guard.specs.Number.{Parsed, Parsed.accepted, Parsed.refused, Parser, ◌>>=◌, ◌>>◌, ask, return, times, unfold_signed}
 use Rattle.guard.specs.Types.{Types, Variant, all_defaults, fields_of, infinite_fields, is_number, variants_of}
+use Rattle.guard.proofs.Accepted.{TypeFits, reads-types, types-at, variants_at_lem}
+use Rattle.guard.proofs.Reading.{Reads, reads_weaken}
 use Rattle.serialize.specs.NumberList.{number_list, number_types, types_asked}
-use Rattle.numbers.proofs.Tidy.{Any}
-use Rattle.typereader.proofs.TidyTypes.{TypesFit, tidy_types}
-use Rattle.variantreader.proofs.TidyVariants.{VariantFits}
 use Rattle.listreader.specs.ListReader.{valueless, valueless_row, valueless_rows}
 use Rattle.listreader.specs.Plain.{largest, most_numbers, plain_of}
 use Rattle.listreader.specs.Written.{Narrow}
-use Rattle.listreader.proofs.Simulation.{Agree, Same, Sim, sim_asked, sim_bind, sim_bind_same, sim_ended, sim_folded, sim_gives, sim_number, sim_question, sim_return, sim_room, sim_times}
+use Rattle.listreader.proofs.Simulation.{Agree, Any, Same, Sim, sim_asked, sim_bind, sim_bind_same, sim_ended, sim_folded, sim_gives, sim_number, sim_question, sim_return, sim_room, sim_times}
 
 -- ---- counts, names and kinds
 
@@ -198,19 +197,21 @@ sim_rows ts sizes (suc left) rs ss alike few =
 
 -- ---- the file
 
--- the sizes of the types that the parser accepts
-sizes_of : (many : ℕ) (ts : Types) → many ≤ 6 → TypesFit many many 0 ts → Sizes ts
-sizes_of many ts small (e, total, all) = record { types = omega arith; variants = λ t. (at ts all t).0; fields = λ t v. field-count (variants_of ts t) (at ts all t).1 v }
-  where
-    at : (ts : Types) → All (λ vs. (length vs ≤ variant_limit) × All (VariantFits many) vs) ts → (t : ℕ) → (length (variants_of ts t) ≤ variant_limit) × All (VariantFits many) (variants_of ts t)
-    at [] none t = (omega arith, none)
-    at (vs ∷ ts) (more a bs) zero = a
-    at (vs ∷ ts) (more a bs) (suc t) = at ts bs t
+-- types that the parser accepts, so many of them
+record Fit (many : ℕ) (ts : Types) : Type 0 where
+  as_many : length ts ≡ many
+  each : All (TypeFits many) ts
 
-    field-count : (vs : List Variant) → All (VariantFits many) vs → (v : ℕ) → length (get_or vs v []) ≤ field_limit
-    field-count [] none v = omega arith
-    field-count (fs ∷ vs) (more a bs) zero = a.0
-    field-count (fs ∷ vs) (more a bs) (suc v) = field-count vs bs v
+types-fit : (many : ℕ) → many ≤ 6 → Reads (types bytes many many 0) (λ ts u. Fit many ts)
+types-fit many small = reads_weaken (types bytes many many 0) _ (λ ts u. Fit many ts) (reads-types many many 0 (omega arith) (omega arith)) (λ ts u f. record { as_many = f.0; each = f.1 })
+
+sizes_of : (many : ℕ) (ts : Types) → many ≤ 6 → Fit many ts → Sizes ts
+sizes_of many ts small f =
+    record {
+      types = omega (arith, f.as_many);
+      variants = λ t. (types-at many ts f.each t).0;
+      fields = λ t v. (variants_at_lem many (variants_of ts t) (types-at many ts f.each t).1 v).0;
+    }
 
 abbrev pub AlikeGuards : Guard → Guard → Type 0
 AlikeGuards g h = valueless h ≡ valueless g
@@ -220,7 +221,7 @@ abbrev pub Answers : Parsed Guard → Parsed Guard → Type 0
 Answers (accepted g rest) (accepted h rest') = AlikeGuards g h
 Answers (accepted g rest) (refused q) = ⊥
 Answers (refused q) (accepted h rest) = ⊥
-Answers (refused q) (refused q') = (q ≡ q') × (0 < q) × (¬ (q ≡ 3))
+Answers (refused q) (refused q') = (q ≡ q') × (¬ (q ≡ 3))
 
 module _ (limits : Limits) (sup : Supported limits) where
   abbrev guard : Types → List Row → List Literal → Guard
@@ -259,8 +260,8 @@ module _ (limits : Limits) (sup : Supported limits) where
     sim_begun k f f' R h =
         sim_bind_same 1 (limits.types + 4 * total_variant_limit + k) (count number_list limits.types) (count bytes limits.types) _ _ (λ n. n ≤ limits.types) R
         (sim_count limits.types (omega (arith, sup.types)))
-        (λ many few. sim_bind_same (limits.types + 4 * total_variant_limit) k (types number_list many many 0) (types bytes many many 0) _ _ (TypesFit many many 0) R
-        (sim_gives (limits.types + 4 * total_variant_limit) (types number_list many many 0) (types bytes many many 0) Any (TypesFit many many 0) (tidy_types many many 0 (omega arith))
+        (λ many few. sim_bind_same (limits.types + 4 * total_variant_limit) k (types number_list many many 0) (types bytes many many 0) _ _ (Fit many) R
+        (sim_gives (limits.types + 4 * total_variant_limit) (types number_list many many 0) (types bytes many many 0) Any (Fit many) (types-fit many (omega (arith, sup.types)))
         (sim_room (many + 4 * (total_variant_limit - 0)) (limits.types + 4 * total_variant_limit) (types number_list many many 0) (types bytes many many 0) (Same Any) (omega arith)
         (sim_types many many 0 (omega (arith, sup.types)) (omega arith))))
         (λ ts fit. sim_asked k 8 (all_defaults ts) (all_defaults ts) _ _ R (omega arith) refl (λ e8. sim_asked k 9 (infinite_fields ts) (infinite_fields ts) (f ts) (f' ts) R (omega arith) refl (λ e9.

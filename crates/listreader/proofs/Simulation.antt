@@ -9,11 +9,11 @@ use lib.ListN.{take}
 use borrow.Author.Tests.{le-leb}
 use Rattle.laws.specs.All.{All, All.more}
 use Rattle.guard.specs.Grammar.{ended}
+use Rattle.guard.proofs.Reading.{Reads}
 use Rattle.guard.specs.Number.{Parsed, Parsed.accepted, Parsed.refused, Parser, ◌>>=◌, ◌>>◌, and_then, ask, return, times, unfold_signed, unsigned, unsigned_of, value_width}
 use Rattle.encoding.specs.Encoding.{encoded_value}
 use Rattle.encoding.proofs.ReadBack.{one_byte, read_back, same-encoded, value-read-back}
 use Rattle.serialize.specs.NumberList.{number_list, unsigned_by}
-use Rattle.numbers.proofs.Tidy.{Any, Tidy}
 use Rattle.listreader.specs.Plain.{largest, plain_byte, plain_of}
 use Rattle.listreader.specs.Written.{Narrow}
 
@@ -24,7 +24,7 @@ abbrev pub Agree : {A B : Type 0} → ℕ → (A → B → Type 0) → Parsed A 
 Agree m R (accepted a ws) (accepted b bs) = (n : ℕ) × (bs ≡ plain_of n ws) × (m ≤ n) × All Narrow (take n ws) × R a b
 Agree m R (accepted a ws) (refused q) = ⊥
 Agree m R (refused q) (accepted b bs) = ⊥
-Agree m R (refused q) (refused r) = (q ≡ r) × (0 < q) × (¬ (q ≡ 3))
+Agree m R (refused q) (refused r) = (q ≡ r) × (¬ (q ≡ 3))
 
 -- the parsers agree on every list of values, if its plain bytes have room for k numbers more than are to be left
 unfoldable pub Sim : {A B : Type 0} → ℕ → Parser A → Parser B → (A → B → Type 0) → Type 0
@@ -34,9 +34,13 @@ Sim k p p' R = (ws : List ℕ) (n m : ℕ) → All Narrow (take n ws) → k + m 
 abbrev pub Same : {A : Type 0} → (A → Type 0) → A → A → Type 0
 Same P a b = (a ≡ b) × P a
 
+-- of a value nothing is said
+abbrev pub Any : {A : Type 0} → A → Type 0
+Any a = Unit {0}
+
 -- a question after the first three, asked of both
-both_refuse : (q : ℕ) → 3 < q → (q ≡ q) × (0 < q) × (¬ (q ≡ 3))
-both_refuse q later = (refl, omega arith, λ e. omega arith)
+both_refuse : (q : ℕ) → 3 < q → (q ≡ q) × (¬ (q ≡ 3))
+both_refuse q later = (refl, λ e. omega arith)
 
 -- ---- plain bytes
 
@@ -96,15 +100,15 @@ sim_question q true later = λ ws n m narrow h. (n, refl, omega arith, narrow, (
 sim_question q false later = λ ws n m narrow h. both_refuse q later
 
 -- what the second parser's values satisfy, where both have equal ones
-pub sim_gives : {A : Type 0} (k : ℕ) (p p' : Parser A) (P Q : A → Type 0) → Tidy p' Q → Sim k p p' (Same P) → Sim k p p' (Same Q)
-unfolding Sim
-sim_gives {A} k p p' P Q t hp ws n m narrow h = go (p ws) (p' (plain_of n ws)) refl (hp ws n m narrow h)
+pub sim_gives : {A : Type 0} (k : ℕ) (p p' : Parser A) (P Q : A → Type 0) → Reads p' (λ a u. Q a) → Sim k p p' (Same P) → Sim k p p' (Same Q)
+unfolding Reads Sim
+sim_gives {A} k p p' P Q gives hp ws n m narrow h = go (p ws) (p' (plain_of n ws)) refl (hp ws n m narrow h)
   where
     go : (r r' : Parsed A) → p' (plain_of n ws) ≡ r' → Agree m (Same P) r r' → Agree m (Same Q) r r'
     go (refused q) (refused q') i e = e
     go (refused q) (accepted b bs) i e = e
     go (accepted a ws') (refused q') i e = absurd e
-    go (accepted a ws') (accepted b bs) i (n', e, l, c, ab) = (n', e, l, c, (ab.0, subst Q (sym ab.0) (t.gives (plain_of n ws) b bs i)))
+    go (accepted a ws') (accepted b bs) i (n', e, l, c, ab) = let (u, used, q) = gives (plain_of n ws) b bs i in (n', e, l, c, (ab.0, subst Q (sym ab.0) q))
 
 -- ---- one number
 
@@ -134,7 +138,7 @@ module _ {A B : Type 0} (k q : ℕ) (test : ℕ → Bool) (f : ℕ → Parser A)
   pub sim_number : Sim (1 + k) (number_list.number >>= λ v. ask q (test v) >> f v) (unsigned >>= λ v. ask q (test v) >> f' v) R
   unfolding Sim
   sim_number ws zero m narrow h = absurd (omega arith)
-  sim_number [] (suc n) m narrow h = (refl, omega arith, λ e. omega arith)
+  sim_number [] (suc n) m narrow h = (refl, λ e. omega arith)
   sim_number (w ∷ ws) (suc n) m (more fits narrow) h =
       rw (plain-read w (plain_of n ws)) (number_step (unsigned_by (unfold_signed w)) (plain_byte w) refl n m ws narrow (omega arith))
 
@@ -142,7 +146,7 @@ module _ {A B : Type 0} (k q : ℕ) (test : ℕ → Bool) (f : ℕ → Parser A)
 pub sim_folded : Sim 1 number_list.folded (unsigned_of value_width) (λ a b. Unit {0})
 unfolding Sim
 sim_folded ws zero m narrow h = absurd (omega arith)
-sim_folded [] (suc n) m narrow h = (refl, omega arith, λ e. omega arith)
+sim_folded [] (suc n) m narrow h = (refl, λ e. omega arith)
 sim_folded (w ∷ ws) (suc n) m (more fits narrow) h =
     rw (plain_value w (plain_of n ws), le-leb w value_width.most fits) (n, refl, omega arith, narrow, tt)
 

@@ -1,8 +1,10 @@
 -- What the reader of lists gives: the tables of the list's guard, but for the values of its constants. Assumes nothing: definitions.
-use Rattle.std.specs.Prelude.{◌≡◌, List, map, pos}
+use Rattle.std.specs.Prelude.{◌≡◌, List, map, ℕ, pos, Result, Ok, Err}
 use Rattle.guard.specs.Guard.{Guard, Row, Row.built, Row.constant, Row.field, Row.variable}
 use Rattle.guard.specs.Number.{Parsed, Parsed.accepted, Parsed.refused}
-use Rattle.reader.specs.Reader.{guard_tables, no_tables}
+use Rattle.guard.specs.Question.{number_of}
+use Rattle.guard.specs.declared.Question.{Question}
+use Rattle.reader.specs.Reader.{guard_tables}
 use Rattle.reader.specs.declared.Tables.{Tables}
 
 -- a row, with 0 for a constant's value
@@ -19,7 +21,16 @@ valueless_rows rs = map valueless_row rs
 abbrev pub valueless : Guard → Guard
 valueless g = record { types = g.types; rows = valueless_rows g.rows; literals = g.literals }
 
--- The tables of a list: whatever asks for the values of its constants takes them from the list.
-abbrev pub ReadsList : Parsed Guard → Tables → Type 0
-ReadsList (refused q) r = r ≡ no_tables q
-ReadsList (accepted g rest) r = (h : Guard) × (r ≡ guard_tables h) × (valueless h ≡ valueless g)
+-- A list that is taken: whatever asks for the values of its constants takes them from the list.
+pub record Taken (p : Parsed Guard) (t : Tables) : Type 0 where
+  pub guard : Guard
+  pub rest : List ℕ
+  pub is : p ≡ accepted guard rest
+  pub shown : Guard
+  pub tables : t ≡ guard_tables shown
+  pub same : valueless shown ≡ valueless guard
+
+-- its tables, or the question that refuses the list
+abbrev pub ReadsList : Parsed Guard → Result Tables Question → Type 0
+ReadsList p (Ok t) = Taken p t
+ReadsList p (Err q) = p ≡ refused (number_of q)

@@ -3,14 +3,16 @@
 // negative number; where a constant's value stands, any byte is read on.
 #![tactic(auto)]
 
-ghost use Rattle.std.specs.Prelude.{◌≡◌, length};
+ghost use Rattle.std.specs.Prelude.{◌≡◌, ◌≢◌, length, IfErr};
 ghost use Rattle.guard.specs.Limits.{base};
 ghost use Rattle.guard.specs.Number.{fold_signed};
+ghost use Rattle.guard.specs.Question.{number_of};
 ghost use Rattle.serialize.specs.NumberList.{list_file};
 ghost use Rattle.listreader.specs.ListReader.{ReadsList};
 ghost use Rattle.listreader.specs.Plain.{plain_byte, room};
 ghost use Rattle.listreader.specs.Written.{Written};
 
+use guard::Question;
 use reader::Tables;
 
 // The byte that stands for a number.
@@ -29,26 +31,22 @@ fn plain_bytes(list: &[i64], out: &mut [u8; 448]) -> usize
     requires { length out.old ≡ room }
     ensures { Written list.now out.new result }
 {
-    let mut many: usize = 0;
-    while many < 448 && many < list.len() {
-        let x = list[many];
-        out[many] = plain_byte(x);
-        many += 1;
+    let many = list.len().min(448);
+    for i in 0..many {
+        let x = list[i];
+        out[i] = plain_byte(x);
     }
     many
 }
 
 // The tables of a guard file given as a list of its numbers, but for the values of its constants; or the first question that gets a
-// no, 18 of the types among them, and empty tables. Document 02, #104: "The writer's 3 no longer occurs."
-pub fn read_list(list: &[i64]) -> Tables
+// no, 18 of the types among them. Document 02, #104: "The writer's 3 no longer occurs."
+pub fn read_list(list: &[i64]) -> Result<Tables, Question>
     ensures reads_list { ReadsList (list_file base list.now) result }
-    ensures not_result_refused { ¬ (result.refused ≡ 3) }
+    ensures not_malformed { IfErr result (λ q. number_of q ≢ 3) }
 {
     let mut out = [0u8; 448];
     let many = plain_bytes(list, &mut out);
-    let question = numbertypes::types_question(&out[..many]);
-    if question != 0 {
-        return reader::no_tables(question);
-    }
+    numbertypes::types_question(&out[..many])?;
     reader::read(&out[..many], 6, 24, 32)
 }

@@ -9,6 +9,7 @@ use native.Mathlib.Omega.{arith}
 use lib.Dec.{eqb, leb}
 use lib.ListN.{length, get_or, drop, take}
 use Rattle.std.specs.List.{count_by}
+use Rattle.std.specs.Prelude.{Ok, Err}
 use Rattle.std.proofs.lemmas.Grind.{common_steps}
 use borrow.Author.Tests.{le-leb, lt-leb, ne_eqb}
 use Rattle.laws.specs.Lists.{cons_if, filter}
@@ -16,15 +17,17 @@ use Rattle.guard.specs.File.{bytes, count, types}
 use Rattle.guard.specs.Limits.{base}
 use Rattle.guard.specs.Number.{Parsed, Parsed.accepted, Parsed.refused, Parser, ◌>>◌, and_then, ask}
 use Rattle.guard.specs.Types.{Types, all_defaults, defaults, infinite_fields}
+use Rattle.guard.specs.Question.{number_of}
+use Rattle.guard.specs.declared.Question.{Question}
+use Rattle.guard.specs.declared.Question.TheVariants.{NoDefault, NoInfiniteField}
 use Rattle.tables.specs.Layout.{TypesInRange, default_column, type_table, types_of}
 use Rattle.tables.specs.declared.TypeTable.{TypeTable}
+use Rattle.numbers.specs.Reader.{Found}
 use Rattle.serialize.specs.NumberList.{number_types, types_asked}
-use Rattle.typereader.specs.TypeReader.{types_at, types_part}
-use Rattle.typereader.specs.declared.TypesRead.{TypesRead}
+use Rattle.typereader.specs.TypeReader.{table_by, types_part}
 use Rattle.typereader.proofs.TypeReaderLaws.{TypesFound, types-found, types-refused}
-use Rattle.datatypes.specs.Facts.{refused_at, type_facts}
-use Rattle.datatypes.specs.declared.TypeFacts.{TypeFacts}
-use Rattle.numbertypes.specs.Asked.{question_of, zeroes}
+use Rattle.datatypes.specs.Facts.{type_facts}
+use Rattle.numbertypes.specs.Asked.{Passed, zeroes}
 
 -- ---- number types in a table
 
@@ -76,69 +79,52 @@ asked-parts file = go (count 6 file)
     go (refused q) = refl
     go (accepted many rest) = refl
 
-module _ (file : List ℕ) (t : TypesRead) (is_t : t ≡ types_at file 6) where
-  abbrev question : ℕ
-  question = question_of (types_asked bytes base file)
+-- 2 to 5
+pub part_stops : (file : List ℕ) (q : ℕ) → table_by 6 file ≡ refused q → types_asked bytes base file ≡ refused q
+part_stops file q e = asked-parts file ∙ ap (and_then asked_of) (types-refused file 6 q e)
 
-  -- 2 to 5
-  pub part_stops : ¬ (t.refused ≡ 0) → t.refused ≡ question
-  part_stops n = sym (ap question_of (asked-parts file ∙ ap (and_then asked_of) (types-refused file 6 t is_t n)))
+module _ (file : List ℕ) (table : TypeTable) (at : ℕ) (f : Found (table_by 6 file) file table at) where
+  found : TypesFound file 6 table at
+  found = types-found file 6 (omega arith) table at f
 
-  module _ (types_read : t.refused ≡ 0) where
-    found : TypesFound file 6 t
-    found = types-found file 6 t is_t (omega arith) types_read
+  abbrev ts : Types
+  ts = found.ts
 
-    abbrev ts : Types
-    ts = found.ts
+  pub table-range : TypesInRange table
+  table-range = found.range
 
-    pub table-range : TypesInRange t.table
-    table-range = found.range
+  number-types : zeroes table.variants table.many ≡ number_types ts
+  unfolding type_table
+  number-types = ap (λ (x : TypeTable). zeroes x.variants x.many) found.is ∙ zeroes-types ts _
 
-    number-types : zeroes t.table.variants t.table.many ≡ number_types ts
-    unfolding type_table
-    number-types =
-        ap (λ (x : TypeTable). zeroes x.variants x.many) found.table
-        ∙ zeroes-types ts _
+  asked_by : (a b c : Bool) → all_defaults ts ≡ a → infinite_fields ts ≡ b → leb (number_types ts) 1 ≡ c → types_asked bytes base file ≡ asked a b c (drop at file)
+  asked_by a b c p q r = asked-parts file ∙ ap (and_then asked_of) found.parsed ∙ rw (p, q, r) refl
 
-    asked_by : (a b c : Bool) → all_defaults ts ≡ a → infinite_fields ts ≡ b → leb (number_types ts) 1 ≡ c → question ≡ question_of (asked a b c (drop t.at file))
-    asked_by a b c p q r =
-        ap question_of (asked-parts file ∙ ap (and_then asked_of) found.parsed)
-        ∙ ap (λ (x : Bool). question_of (asked x (infinite_fields ts) (leb (number_types ts) 1) (drop t.at file))) p
-        ∙ ap (λ (x : Bool). question_of (asked a x (leb (number_types ts) 1) (drop t.at file))) q
-        ∙ ap (λ (x : Bool). question_of (asked a b x (drop t.at file))) r
+  facts_by : (a b : Bool) → all_defaults ts ≡ a → infinite_fields ts ≡ b → type_facts (types_of table) ≡ cond a (cond b (Ok (default_column (defaults ts))) (Err NoInfiniteField)) (Err NoDefault)
+  unfolding type_facts
+  facts_by a b p q = ap type_facts found.back ∙ rw (p, q) refl
 
-    module _ (f : TypeFacts) (is_f : f ≡ type_facts (types_of t.table)) where
-      abbrev settled : TypeFacts
-      settled = record { refused = 0; defaults = default_column (defaults ts) }
+  -- 8 and 9
+  pub facts_stop : (q : Question) → type_facts (types_of table) ≡ Err q → types_asked bytes base file ≡ refused (number_of q)
+  facts_stop q is = go (all_defaults ts) (infinite_fields ts) refl refl
+    where
+      go : (a b : Bool) → all_defaults ts ≡ a → infinite_fields ts ≡ b → types_asked bytes base file ≡ refused (number_of q)
+      go false b p r = let e = sym is ∙ facts_by false b p r in let z : NoDefault ≡ q = cc in asked_by false b _ p r refl ∙ ap (λ (x : Question). refused (number_of x)) z
+      go true false p r = let e = sym is ∙ facts_by true false p r in let z : NoInfiniteField ≡ q = cc in asked_by true false _ p r refl ∙ ap (λ (x : Question). refused (number_of x)) z
+      go true true p r = let e = sym is ∙ facts_by true true p r in absurd cc
 
-      facts_by : (a b : Bool) → all_defaults ts ≡ a → infinite_fields ts ≡ b → f.refused ≡ (cond a (cond b settled (refused_at 9)) (refused_at 8)).refused
-      unfolding type_facts
-      facts_by a b p q =
-          ap (λ (x : TypeFacts). x.refused) (is_f ∙ ap type_facts found.back)
-          ∙ ap (λ (x : Bool). (cond x (cond (infinite_fields ts) settled (refused_at 9)) (refused_at 8)).refused) p
-          ∙ ap (λ (x : Bool). (cond a (cond x settled (refused_at 9)) (refused_at 8)).refused) q
+  module _ (ds : List ℕ) (is : type_facts (types_of table) ≡ Ok ds) (n : ℕ) (is_n : n ≡ zeroes table.variants table.many) where
+    -- by the answer to 18
+    asked-last : (c : Bool) → leb (number_types ts) 1 ≡ c → types_asked bytes base file ≡ ask 18 c (drop at file)
+    asked-last c r = go (all_defaults ts) (infinite_fields ts) refl refl
+      where
+        go : (a b : Bool) → all_defaults ts ≡ a → infinite_fields ts ≡ b → types_asked bytes base file ≡ ask 18 c (drop at file)
+        go false b p q = let e = sym is ∙ facts_by false b p q in absurd cc
+        go true false p q = let e = sym is ∙ facts_by true false p q in absurd cc
+        go true true p q = asked_by true true c p q r
 
-      -- 8 and 9
-      pub facts_stop : ¬ (f.refused ≡ 0) → f.refused ≡ question
-      facts_stop n = go (all_defaults ts) (infinite_fields ts) refl refl
-        where
-          go : (a b : Bool) → all_defaults ts ≡ a → infinite_fields ts ≡ b → f.refused ≡ question
-          go false b p q = facts_by false b p q ∙ sym (asked_by false b _ p q refl)
-          go true false p q = facts_by true false p q ∙ sym (asked_by true false _ p q refl)
-          go true true p q = absurd (n (facts_by true true p q))
+    pub several : 1 < n → types_asked bytes base file ≡ refused 18
+    several l = asked-last false (lt-leb (number_types ts) 1 (omega (arith, is_n, number-types)))
 
-      module _ (facts_read : f.refused ≡ 0) (n : ℕ) (is_n : n ≡ zeroes t.table.variants t.table.many) where
-        -- by the answer to 18
-        asked-last : (c : Bool) → leb (number_types ts) 1 ≡ c → question ≡ question_of (ask 18 c (drop t.at file))
-        asked-last c r = go (all_defaults ts) (infinite_fields ts) refl refl
-          where
-            go : (a b : Bool) → all_defaults ts ≡ a → infinite_fields ts ≡ b → question ≡ question_of (ask 18 c (drop t.at file))
-            go false b p q = absurd (omega (arith, facts_read, facts_by false b p q))
-            go true false p q = absurd (omega (arith, facts_read, facts_by true false p q))
-            go true true p q = asked_by true true c p q r
-
-        pub several : 1 < n → 18 ≡ question
-        several l = sym (asked-last false (lt-leb (number_types ts) 1 (omega (arith, is_n, number-types))))
-
-        pub at_most_one : ¬ (1 < n) → 0 ≡ question
-        at_most_one l = sym (asked-last true (le-leb (number_types ts) 1 (omega (arith, is_n, number-types))))
+    pub at_most_one : n ≤ 1 → Passed (types_asked bytes base file)
+    at_most_one l = record { rest = _; accepts = asked-last true (le-leb (number_types ts) 1 (omega (arith, is_n, number-types))) }

@@ -6,7 +6,9 @@ ghost use Rattle.std.specs.Prelude.{◌≡◌, ◌≤◌};
 ghost use Rattle.guard.specs.File.{bytes};
 ghost use Rattle.guard.specs.Limits.{base};
 ghost use Rattle.serialize.specs.NumberList.{types_asked};
-ghost use Rattle.numbertypes.specs.Asked.{question_of, zeroes};
+ghost use Rattle.numbertypes.specs.Asked.{Asks, zeroes};
+
+use guard::Question;
 
 // How many of the first types have no variant.
 #[tactic(auto, using(crate::proofs::AskedLaws::zeroes_count))]
@@ -17,22 +19,16 @@ fn number_types(many: usize, variants: &[u8; 6]) -> usize
     variants[..many].iter().filter(|n| **n == 0).count()
 }
 
-// The first question about the types part that gets a no, 18 the last of them, or 0.
-pub fn types_question(file: &[u8]) -> u32
-    ensures { result ≡ question_of (types_asked bytes base file.now) }
+// The questions about the types part, 18 the last of them: the first that gets a no.
+pub fn types_question(file: &[u8]) -> Result<(), Question>
+    ensures { Asks (types_asked bytes base file.now) result }
 {
-    let t = typereader::read_types(file, 6);
-    if t.refused != 0 {
-        return t.refused;
-    }
-    let table = t.table;
-    let f = datatypes::type_facts(table);
-    if f.refused != 0 {
-        return f.refused;
-    }
+    let t = typereader::read_types(file, 6)?;
+    let table = t.value;
+    datatypes::type_facts(table)?;
     let variants = table.variants;
     if 1 < number_types(table.many, &variants) {
-        return 18;
+        return Err(Question::TwoNumberTypes);
     }
-    0
+    Ok(())
 }

@@ -1,4 +1,5 @@
 -- `put_numbers`: the bytes of the numbers before i stand in the buffer. Assumes nothing.
+use Rattle.std.proofs.Common.{rules, ℕ, ℤ, List}
 use mathlib.Core.Path.{◌≡◌, sym, ◌∙◌}
 use mathlib.Core.Bool.{true}
 use native.Mathlib.Omega.{arith}
@@ -11,15 +12,17 @@ use borrow.Author.Tests.{not-false, not-true}
 use Rattle.bytebuffer.proofs.PutLaws.{ends-within}
 use Rattle.filewriter.proofs.TokenLaws.{full_puts, next-puts, token-marked}
 use Rattle.filewriter.proofs.put_numbers.Goals as goal
-use Rattle.filewriter.proofs.put_numbers.Goals.{After-x-1}
+
+number_is : (list : List ℤ) (i : ℕ) → SFits w64 (get_or list i (pos 0)) → get_or list i (pos 0) ≡ to_z w64 (of_z w64 (get_or list i (pos 0)))
+number_is list i fits = sym (to_z-of_z fits)
 
 pub written_number-n-requires : goal.written_number-n-requires
-written_number-n-requires c = let m = c.requires.marked in
-    token-marked m c.loop-i.i (omega arith) _ ((let it : get_or c.args.list.now c.loop-i.i (pos 0) ≡ to_z w64 (of_z w64 (get_or c.args.list.now c.loop-i.i (pos 0))) = let fits : SFits w64 (get_or c.args.list.now c.loop-i.i (pos 0)) = record { sfits = c.x-1.given } in sym (to_z-of_z fits) in it))
+written_number-n-requires c = let l = c.loop-i in
+    token-marked c.requires.marked l.i (omega arith) _ (number_is c.args.list.now l.i (search rules))
 
 pub returns-then-not-end : goal.returns-then-not-end
 returns-then-not-end c = let l = c.loop-i in
-    record { puts = λ ks m. full_puts m l.i (omega arith) (l.invariant.puts ks m) _ ((let it : get_or c.args.list.now c.loop-i.i (pos 0) ≡ to_z w64 (of_z w64 (get_or c.args.list.now c.loop-i.i (pos 0))) = let fits : SFits w64 (get_or c.args.list.now c.loop-i.i (pos 0)) = record { sfits = c.x-1.given } in sym (to_z-of_z fits) in it)) c.written_number-n.result c.written_number-n.ensures c.put_number-end.ensures (not-true _ c.if-not-end.true) }
+    record { puts = λ ks m. full_puts m l.i (omega arith) (l.invariant.puts ks m) _ (number_is c.args.list.now l.i (search rules)) c.written_number-n.result c.written_number-n.ensures c.put_number-end.ensures (not-true _ c.if-not-end.true) }
 
 pub loop-i-preserved : goal.loop-i-preserved
 loop-i-preserved c = let l = c.loop-i in
@@ -27,5 +30,5 @@ loop-i-preserved c = let l = c.loop-i in
     record {
       long = c.put_number-end.ensures.long ∙ l.invariant.long;
       room = ends-within c.put_number-end.ensures f;
-      puts = λ ks m. next-puts m l.i (omega arith) (l.invariant.puts ks m) _ ((let it : get_or c.args.list.now c.loop-i.i (pos 0) ≡ to_z w64 (of_z w64 (get_or c.args.list.now c.loop-i.i (pos 0))) = let fits : SFits w64 (get_or c.args.list.now c.loop-i.i (pos 0)) = record { sfits = c.x-1.given } in sym (to_z-of_z fits) in it)) c.written_number-n.result c.written_number-n.ensures c.put_number-end.ensures f;
+      puts = λ ks m. next-puts m l.i (omega arith) (l.invariant.puts ks m) _ (number_is c.args.list.now l.i (search rules)) c.written_number-n.result c.written_number-n.ensures c.put_number-end.ensures f;
     }

@@ -1,48 +1,24 @@
 -- `listreader::plain_bytes`: what is written are the plain bytes of the numbers so far. Assumes nothing.
-use mathlib.Core.Path.{◌≡◌, refl, subst, sym}
-use mathlib.Core.Logic.{inl, inr}
-use mathlib.Core.List.{List}
-use native.Mathlib.Omega.{arith}
-use lib.IntN.{ℤ, pos}
-use lib.ListN.{get_or}
-use mir.Syntax.{w64}
-use mir.Val.{SFits, of_z, to_z}
+use Rattle.std.proofs.Common.{refl, ap, arith, rules, get_or, pos, ℤ, ◌≡◌, ◌∙◌, w64}
+use mir.Val.{SFits}
 use mir.Facts.{to_z-of_z}
-use borrow.Author.Tests.{ltb-false, ltb-true}
-use Rattle.listreader.proofs.PlainLaws.{all-written, fold_narrow, front-next}
 use Rattle.laws.specs.All.{All.none}
 use Rattle.guard.specs.Number.{fold_signed}
-use Rattle.listreader.specs.Written.{Narrow}
+use Rattle.listreader.specs.Plain.{plain_byte}
+use Rattle.listreader.proofs.PlainLaws.{all-written, fold_narrow, front-next}
 use Rattle.listreader.proofs.plain_bytes.Goals as goal
-use Rattle.listreader.proofs.plain_bytes.Goals.{After-x-1}
 
--- the number that is read in a turn
-abbrev list : After-x-1 → List ℤ
-list c = c.args.list.now
+pub loop-i-init : goal.loop-i-init
+loop-i-init c = record { long = c.requires; bytes = refl; narrow = none }
 
-abbrev number : After-x-1 → ℤ
-number c = get_or (list c) c.loop-many.many (pos 0)
+pub loop-i-preserved : goal.loop-i-preserved
+loop-i-preserved c = let l = c.loop-i in
+    let x = get_or c.args.list.now l.i (pos 0) in
+    let fits : SFits w64 x = search rules in
+    let byte : c.plain_byte.result ≡ plain_byte (fold_signed x) = c.plain_byte.ensures ∙ ap (λ (z : ℤ). plain_byte (fold_signed z)) (to_z-of_z fits) in
+    front-next c.args.list.now l.out l.i l.invariant c.plain_byte.result (omega arith) (omega arith) byte (fold_narrow x fits)
 
-abbrev x : After-x-1 → ℤ
-x c = to_z w64 (of_z w64 (number c))
-
-at : (c : After-x-1) → number c ≡ x c
-at c = let fits : SFits w64 (number c) = record { sfits = c.x-1.given } in sym (to_z-of_z fits)
-
-pub loop-many-init : goal.loop-many-init
-loop-many-init c = record { few = omega arith; within = omega arith; long = c.requires; bytes = refl; narrow = none }
-
-pub loop-many-preserved : goal.loop-many-preserved
-loop-many-preserved c = let l = c.loop-many in
-    let b = c.plain_byte in
-    let fits : SFits w64 (number c.before.before) = record { sfits = c.x-1.given } in
-    front-next (list c.before.before) l.out l.many l.invariant (x c.before.before) b.result (omega arith) (omega (arith, ltb-true)) (at c.before.before) b.ensures
-    (subst (λ (z : ℤ). Narrow (fold_signed z)) (at c.before.before) (fold_narrow (number c.before.before) fits))
-
-pub returns-else-many-list : goal.returns-else-many-list
-returns-else-many-list c = let l = c.loop-many in
-    all-written c.args.list.now l.out l.many l.invariant (inl (omega (arith, ltb-false)))
-
-pub returns-after-loop-many : goal.returns-after-loop-many
-returns-after-loop-many c = let l = c.loop-many in
-    all-written c.args.list.now l.out l.many l.invariant (inr (omega arith))
+pub returns : goal.returns
+returns c = let l = c.loop-i in
+    let all : l.i ≡ c.min-many.result = omega arith in
+    rw (← all) (all-written c.args.list.now l.out l.i l.invariant (all ∙ c.min-many.ensures))

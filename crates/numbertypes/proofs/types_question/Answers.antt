@@ -1,22 +1,26 @@
 -- `types_question`: what the types part, its facts and its count of number types say. Assumes nothing.
-use native.Mathlib.Omega.{arith}
+use Rattle.std.proofs.Common.{◌∙◌, sym}
+use Rattle.std.proofs.lemmas.Result.{err_from_is_err_and}
+use Rattle.guard.specs.Question.{number_of}
 use Rattle.numbertypes.proofs.AskedLaws.{at_most_one, facts_stop, part_stops, several, table-range}
 use Rattle.numbertypes.proofs.types_question.Goals as goal
 
-pub returns-then-t-ne0 : goal.returns-then-t-ne0
-returns-then-t-ne0 c = part_stops c.args.file.now c.read_types-t.result c.read_types-t.ensures (omega arith)
+pub returns-in_err-t : goal.returns-in_err-t
+returns-in_err-t c = let p = err_from_is_err_and c.from_residual.result c.from_residual.ensures.1 in
+    rw (p.1, p.2) (part_stops c.args.file.now (number_of c.in_err-t.field-0.0) c.in_err-t.ensures)
 
-pub type_facts-f-requires : goal.type_facts-f-requires
-type_facts-f-requires c = table-range c.args.file.now c.read_types-t.result c.read_types-t.ensures c.if-t-ne0.false
+pub type_facts-requires : goal.type_facts-requires
+type_facts-requires c = table-range c.args.file.now c.in_ok-t.t.value c.in_ok-t.t.at c.in_ok-t.ensures
 
-pub returns-then-f-ne0 : goal.returns-then-f-ne0
-returns-then-f-ne0 c = facts_stop c.args.file.now c.read_types-t.result c.read_types-t.ensures c.if-t-ne0.false c.type_facts-f.result c.type_facts-f.ensures (omega arith)
+pub returns-in_err-type_facts : goal.returns-in_err-type_facts
+returns-in_err-type_facts c = let p = err_from_is_err_and c.from_residual-in_err-type_facts.result c.from_residual-in_err-type_facts.ensures.1 in
+    rw (p.1, p.2) (facts_stop c.args.file.now c.in_ok-t.t.value c.in_ok-t.t.at c.in_ok-t.ensures c.in_err-type_facts.field-0.0 (sym c.type_facts.ensures ∙ c.in_err-type_facts.was))
 
 pub number_types-requires : goal.number_types-requires
-number_types-requires c = (table-range c.args.file.now c.read_types-t.result c.read_types-t.ensures c.if-t-ne0.false).many
+number_types-requires c = (table-range c.args.file.now c.in_ok-t.t.value c.in_ok-t.t.at c.in_ok-t.ensures).many
 
 pub returns-then-number_types-gt1 : goal.returns-then-number_types-gt1
-returns-then-number_types-gt1 c = several c.args.file.now c.read_types-t.result c.read_types-t.ensures c.if-t-ne0.false c.type_facts-f.result c.type_facts-f.ensures (omega arith) c.number_types.result c.number_types.ensures (omega arith)
+returns-then-number_types-gt1 c = several c.args.file.now c.in_ok-t.t.value c.in_ok-t.t.at c.in_ok-t.ensures c.in_ok-type_facts.field-0 (sym c.type_facts.ensures ∙ c.in_ok-type_facts.was) c.number_types.result c.number_types.ensures c.if-number_types-gt1.true
 
 pub returns : goal.returns
-returns c = at_most_one c.args.file.now c.read_types-t.result c.read_types-t.ensures c.if-t-ne0.false c.type_facts-f.result c.type_facts-f.ensures (omega arith) c.number_types.result c.number_types.ensures (omega arith)
+returns c = at_most_one c.args.file.now c.in_ok-t.t.value c.in_ok-t.t.at c.in_ok-t.ensures c.in_ok-type_facts.field-0 (sym c.type_facts.ensures ∙ c.in_ok-type_facts.was) c.number_types.result c.number_types.ensures c.if-number_types-gt1.false
