@@ -9,7 +9,7 @@ use borrow.Author.Tests.{ltb-false, ltb-true}
 use Rattle.laws.proofs.Bools.{by_test}
 use Rattle.guard.specs.File.{literal}
 use Rattle.guard.specs.Guard.{Guard, Literal, Row, no_row, type_at, type_of}
-use Rattle.guard.specs.Number.{Parsed, Parsed.accepted, Parsed.refused, and_then, return}
+use Rattle.guard.specs.Number.{Parsed.accepted, Parsed.refused, and_then, return}
 use Rattle.guard.specs.Types.{Types}
 use Rattle.guard.proofs.Accepted.{RowsFit, accepted-rows, row_type}
 use Rattle.tables.specs.Layout.{literal_table, row_table, type_table, types_of}

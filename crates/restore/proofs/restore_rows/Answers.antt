@@ -9,7 +9,6 @@ use Rattle.laws.specs.All.{All}
 use Rattle.std.proofs.lemmas.Result.{err_from_is_err_and}
 use Rattle.guard.specs.File.{file}
 use Rattle.guard.specs.Limits.{base}
-use Rattle.guard.specs.Question.{number_of}
 use Rattle.guard.specs.declared.Question.{Question}
 use Rattle.guard.specs.Types.{Types}
 use Rattle.serialize.specs.Tokens.{bytes_of}
