@@ -1,7 +1,7 @@
 -- The tables of guards hold their parts, those of an accepted file its guard's, and the names of the second's rows are the
 -- definition's. Assumes nothing.
 use mathlib.Core.Path.{◌≡◌, ap, sym, subst}
-use mathlib.Core.List.{List}
+use mathlib.Core.List.{List, []}
 use Prim.Native.Nat.{ℕ, ◌<◌}
 use native.Mathlib.Omega.{arith}
 use lib.ListN.{length}
@@ -15,8 +15,8 @@ use Rattle.guard.proofs.Accepted.{accepted-total, accepted_well_formed}
 use Rattle.guard.proofs.Claims.{base-supported}
 use Rattle.tables.specs.Layout.{literal_table}
 use Rattle.reader.specs.declared.Tables.{Tables}
-use Rattle.reader.specs.Reader.{guard_tables, tables_at}
-use Rattle.reader.proofs.TablesRead.{guard-tables, taken-file}
+use Rattle.reader.specs.Reader.{guard_tables, in_tables}
+use Rattle.reader.proofs.TablesRead.{taken-file}
 use Rattle.heldparts.specs.Held.{HoldsLiterals, HoldsRows, HoldsTypes}
 use Rattle.heldparts.proofs.FromGuard.{holds-literals, holds_rows, holds-types}
 use Rattle.literalwriter.specs.LiteralBytes.{SmallNames, SomeLiterals}
@@ -46,18 +46,16 @@ module _ {t : Tables} {g : Guard} (k : TablesOf t g) where
 -- a file that is taken, with the tables of its guard
 pub record Opened (bytes : List ℕ) (t : Tables) : Type 0 where
   pub guard : Guard
-  pub rest : List ℕ
-  pub is : file base bytes ≡ accepted guard rest
+  pub is : file base bytes ≡ accepted guard []
   pub tables : TablesOf t guard
 
-pub opened : (bytes : List ℕ) (t : Tables) → t ≡ tables_at base bytes → t.refused ≡ 0 → Opened bytes t
-opened bytes t is z =
-    let (g, rest, e) = taken-file base bytes t is z in
+pub opened : (bytes : List ℕ) (t : Tables) → in_tables (file base) bytes ≡ accepted t [] → Opened bytes t
+opened bytes t e =
+    let k = taken-file base bytes t e in
     record {
-      guard = g;
-      rest = rest;
-      is = e;
-      tables = record { are = guard-tables base bytes t is g rest e; fits = accepted_well_formed base base-supported bytes g rest e; total = accepted-total base base-supported bytes g rest e };
+      guard = k.guard;
+      is = k.parsed;
+      tables = record { are = k.is; fits = accepted_well_formed base base-supported bytes k.guard [] k.parsed; total = accepted-total base base-supported bytes k.guard [] k.parsed };
     }
 
 -- a guard's lines can be put, and under their own numbers
