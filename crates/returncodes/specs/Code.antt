@@ -12,3 +12,8 @@ minus (suc n) = negsuc n
 abbrev pub code_of : Result ℕ Question → ℤ
 code_of (Ok count) = pos count
 code_of (Err q) = minus (number_of q)
+
+-- 0, or the number of the question that refused
+abbrev pub question_of : Result (Unit {0}) Question → ℕ
+question_of (Ok u) = 0
+question_of (Err q) = number_of q

@@ -1,8 +1,8 @@
-// One number for C from a count or a question. `specs/Code.antt` says what it is.
+// One number for C from a count or a question. `specs/Code.antt` says which.
 #![tactic(auto)]
 
 ghost use Rattle.std.specs.Prelude.{◌≡◌, ◌≤◌, IfOk};
-ghost use Rattle.returncodes.specs.Code.{code_of};
+ghost use Rattle.returncodes.specs.Code.{code_of, question_of};
 
 use guard::Question;
 
@@ -14,5 +14,15 @@ pub fn code_of(answer: Result<usize, Question>) -> i64
     match answer {
         Ok(count) => count as i64,
         Err(q) => -i64::from(q.number()),
+    }
+}
+
+// 0, or the number of the question that refused.
+pub fn question_of(answer: Result<(), Question>) -> u32
+    ensures { result ≡ question_of answer }
+{
+    match answer {
+        Ok(_) => 0,
+        Err(q) => q.number(),
     }
 }
