@@ -6,6 +6,7 @@ use mathlib.Core.Logic.{◌↔◌}
 use Prim.Native.Nat.{ℕ, ◌≤◌}
 use native.Mathlib.Omega.{arith}
 use lib.ListN.{length, take}
+use Rattle.std.specs.Prelude.{Ok}
 use Rattle.laws.proofs.Bools.{by_test}
 use Rattle.guard.specs.File.{file}
 use Rattle.guard.specs.Guard.{Guard}
@@ -17,13 +18,12 @@ use Rattle.guard.specs.WellFormed.{WellFormed}
 use Rattle.guard.proofs.Accepted.{accepted-ended, accepted-total, accepted_well_formed}
 use Rattle.guard.proofs.Claims.{at-most_585, base-supported}
 use Rattle.tables.specs.Layout.{flat}
-use Rattle.reader.proofs.TablesRead.{file-question}
 use Rattle.encoding.proofs.Parsers.{not_accepted}
 use Rattle.serialize.specs.Tokens.{bytes_of}
 use Rattle.serialize.proofs.Theorems.{well_formed-file}
 use Rattle.heldparts.proofs.FromGuard.{holds-types}
 use Rattle.filewriter.specs.Writer.{answer_to, left_by}
-use Rattle.filewriter.proofs.Answers.{bytes_back, few-told, room-told}
+use Rattle.filewriter.proofs.Answers.{room-told, wrote}
 use Rattle.sametypes.proofs.SamePart.{same-held}
 use Rattle.merged.specs.Merge.{asked, asked_of_same, has_room, merged, merged_by, merged_file, same_bytes, same_variables, type_part}
 use Rattle.merged.specs.PartsOf.{second_part}
@@ -82,24 +82,6 @@ module _ (first second : List ℕ) where
           (λ v. absurd (not_accepted 16 m rest (sym (tests g h true false (has_room base (merged g h)) t v refl) ∙ e))))
           (λ t. absurd (not_accepted 15 m rest (sym (tests g h false (same_variables g h) (has_room base (merged g h)) t refl refl) ∙ e)))
 
-  -- a question has its number
-  pub merge-question : (q : ℕ) → merged_file base first second ≡ refused q → ¬ (q ≡ 0)
-  unfolding merged_file
-  merge-question q e z = go (file base first) (file base second) refl refl e
-    where
-      same-question : {k : ℕ} → Path (Parsed Guard) (refused k) (refused q) → k ≡ q
-      same-question e = cc
-
-      go : (p r : Parsed Guard) → file base first ≡ p → file base second ≡ r → merged_by base p r ≡ refused q → ⊥
-      go (refused k) r ep er e = file-question base first k ep (same-question e ∙ z)
-      go (accepted g l) (refused k) ep er e = file-question base second k er (same-question e ∙ z)
-      go (accepted g l) (accepted h k) ep er e =
-          by_test (same_bytes (type_part g.types) (type_part h.types))
-          (λ t. by_test (same_variables g h)
-          (λ v. by_test (has_room base (merged g h)) (λ w. not_accepted q (merged g h) [] (sym e ∙ tests g h true true true t v w)) (λ w. omega (arith, z, same-question (sym (tests g h true true false t v w) ∙ e))))
-          (λ v. omega (arith, z, same-question (sym (tests g h true false (has_room base (merged g h)) t v refl) ∙ e))))
-          (λ t. omega (arith, z, same-question (sym (tests g h false (same_variables g h) (has_room base (merged g h)) t refl refl) ∙ e)))
-
 module _ {first second : List ℕ} {m : Guard} (k : Merges first second m) where
   formed-one : WellFormed base k.one
   formed-one = accepted_well_formed base base-supported first k.one [] k.first-is
@@ -127,21 +109,19 @@ module _ {first second : List ℕ} {m : Guard} (k : Merges first second m) where
 
 module _ (first second : List ℕ) (n : ℕ) where
   -- the bytes that stand in the buffer are a file of the merged guard
-  pub merged-read : (answer_to (merged_file base first second) n).refused ≡ 0
-      → (m : Guard) × Merges first second m × (file base (take (answer_to (merged_file base first second) n).bytes (left_by (merged_file base first second) n)) ≡ accepted m [])
-  merged-read z = go (merged_file base first second) refl
-    where
-      go : (p : Parsed Guard) → merged_file base first second ≡ p
-          → (m : Guard) × Merges first second m × (file base (take (answer_to (merged_file base first second) n).bytes (left_by (merged_file base first second) n)) ≡ accepted m [])
-      go (refused q) e = absurd (merge-question first second q e (sym (ap (λ (x : Parsed Guard). (answer_to x n).refused) e) ∙ z))
-      go (accepted m rest) e = let k = merges first second m rest e in (m, k, ap (file base) (bytes_back bytes_of e n z) ∙ merged-accepted k)
+  pub merged-read : (k : ℕ) → answer_to (merged_file base first second) n ≡ Ok k
+      → (m : Guard) × Merges first second m × (file base (take k (left_by (merged_file base first second) n)) ≡ accepted m [])
+  merged-read k told =
+      let w = wrote bytes_of (merged_file base first second) n k told in
+      let m = merges first second w.value w.rest w.is in
+      (w.value, m, ap (file base) w.stand ∙ merged-accepted m)
 
   -- no file has more than 585 bytes, so a buffer of 585 is never too short
   merged-bytes : (m : Guard) (rest : List ℕ) → merged_file base first second ≡ accepted m rest → length (bytes_of m) ≤ 585
   merged-bytes m rest e = at-most_585 (bytes_of m) m [] (merged-accepted (merges first second m rest e))
 
-  pub few-merged : (answer_to (merged_file base first second) n).bytes ≤ 585
-  few-merged = few-told bytes_of (merged_file base first second) n 585 merged-bytes
+  pub few-merged : (k : ℕ) → answer_to (merged_file base first second) n ≡ Ok k → k ≤ 585
+  few-merged k told = let w = wrote bytes_of (merged_file base first second) n k told in omega (arith, w.many, merged-bytes w.value w.rest w.is)
 
-  pub never_short : (m : Guard) (rest : List ℕ) → merged_file base first second ≡ accepted m rest → 585 ≤ n → (answer_to (merged_file base first second) n).refused ≡ 0
+  pub never_short : (m : Guard) (rest : List ℕ) → merged_file base first second ≡ accepted m rest → 585 ≤ n → answer_to (merged_file base first second) n ≡ Ok (length (bytes_of m))
   never_short m rest e h = room-told bytes_of e n (omega (arith, merged-bytes m rest e))

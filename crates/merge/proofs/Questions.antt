@@ -3,16 +3,14 @@ use mathlib.Core.Path.{◌≡◌, refl, ap, ap₂, sym, ◌∙◌}
 use mathlib.Core.Bool.{Bool, true, false, cond, ◌&&◌}
 use mathlib.Core.List.{List, []}
 use Prim.Native.Nat.{ℕ, ◌+◌, ◌≤◌, ◌<◌}
-use native.Mathlib.Omega.{arith}
 use lib.Dec.{leb}
-use borrow.Author.Tests.{le-leb, leb-true, lt-leb}
-use Rattle.laws.proofs.Bools.{by_test}
+use borrow.Author.Tests.{le-leb, lt-leb}
 use Rattle.guard.specs.File.{file}
 use Rattle.guard.specs.Guard.{Guard}
 use Rattle.guard.specs.Limits.{base}
 use Rattle.guard.specs.Number.{Parsed, Parsed.accepted, Parsed.refused}
 use Rattle.reader.specs.declared.Tables.{Tables}
-use Rattle.reader.specs.Reader.{tables_at}
+use Rattle.reader.specs.Reader.{in_tables}
 use Rattle.reader.proofs.TablesRead.{refused-file}
 use Rattle.merged.specs.Merge.{asked, asked_of_same, has_room, merged, merged_by, merged_file, same_bytes, same_variables, type_part}
 use Rattle.renaming.specs.declared.Names.{Names}
@@ -20,7 +18,6 @@ use Rattle.renaming.specs.Names.{NamesOf}
 use Rattle.mergewriter.specs.Merging.{BothOf}
 use Rattle.mergewriter.proofs.Held.{names-are}
 use Rattle.mergewriter.proofs.MergedBytes.{lines-sum, row_count}
-use Rattle.merge.specs.Questions.{question_in}
 
 -- ---- two guards with the same types
 
@@ -28,17 +25,6 @@ module _ (g h : Guard) where
   by_tests : (a b : Bool) → same_variables g h ≡ a → has_room base (merged g h) ≡ b → asked_of_same base g h ≡ cond a (cond b (accepted (merged g h) []) (refused 4)) (refused 16)
   unfolding asked_of_same
   by_tests a b ea eb = ap₂ (λ (x y : Bool). cond x (cond y (accepted (merged g h) []) (refused 4)) (refused 16)) ea eb
-
-  -- where no question gets a no, it is the merged guard
-  pub taken : 0 ≡ question_in (asked_of_same base g h) → asked_of_same base g h ≡ accepted (merged g h) []
-  taken e =
-      by_test (same_variables g h)
-      (λ a. by_test (has_room base (merged g h)) (λ b. by_tests true true a b) (λ b. absurd (omega (arith, e ∙ ap question_in (by_tests true false a b)))))
-      (λ a. absurd (omega (arith, e ∙ ap question_in (by_tests false (has_room base (merged g h)) a refl))))
-
-pub refused-by : (p : Parsed Guard) (q : ℕ) → q ≡ question_in p → ¬ (q ≡ 0) → p ≡ refused q
-refused-by (refused k) q e n = ap refused (sym e)
-refused-by (accepted g rest) q e n = absurd (n e)
 
 module _ {first second : Tables} {g h : Guard} (b : BothOf first second g h) {n : Names} (are : NamesOf first.rows second.rows n) where
   variables-are : n.agree ≡ same_variables g h
@@ -52,31 +38,22 @@ module _ {first second : Tables} {g h : Guard} (b : BothOf first second g h) {n 
   unfolding has_room
   room-is = ap₂ (λ (r l : ℕ). leb r 24 && leb l 32) (sym (row_count b (names-are b are))) (sym (lines-sum b))
 
-  asked_is : (a r l : Bool) → n.agree ≡ a → leb n.rows 24 ≡ r → leb lines 32 ≡ l → question_in (asked_of_same base g h) ≡ question_in (cond a (cond (r && l) (accepted (merged g h) []) (refused 4)) (refused 16))
-  asked_is a r l ea er el = ap question_in (by_tests g h a (r && l) (sym variables-are ∙ ea) (room-is ∙ ap₂ (λ (x y : Bool). x && y) er el))
+  asked_is : (a r l : Bool) → n.agree ≡ a → leb n.rows 24 ≡ r → leb lines 32 ≡ l → asked_of_same base g h ≡ cond a (cond (r && l) (accepted (merged g h) []) (refused 4)) (refused 16)
+  asked_is a r l ea er el = by_tests g h a (r && l) (sym variables-are ∙ ea) (room-is ∙ ap₂ (λ (x y : Bool). x && y) er el)
 
-  pub other-types : n.agree ≡ false → 16 ≡ question_in (asked_of_same base g h)
-  other-types e = sym (asked_is false (leb n.rows 24) (leb lines 32) e refl refl)
+  pub other-types : n.agree ≡ false → asked_of_same base g h ≡ refused 16
+  other-types e = asked_is false (leb n.rows 24) (leb lines 32) e refl refl
 
   module _ (e : n.agree ≡ true) where
-    pub many-rows : 24 < n.rows → 4 ≡ question_in (asked_of_same base g h)
-    many-rows r = sym (asked_is true false (leb lines 32) e (lt-leb n.rows 24 r) refl)
+    pub many-rows : 24 < n.rows → asked_of_same base g h ≡ refused 4
+    many-rows r = asked_is true false (leb lines 32) e (lt-leb n.rows 24 r) refl
 
     module _ (few : n.rows ≤ 24) where
-      pub many-lines : 32 < lines → 4 ≡ question_in (asked_of_same base g h)
-      many-lines l = sym (asked_is true true false e (le-leb n.rows 24 few) (lt-leb lines 32 l))
+      pub many-lines : 32 < lines → asked_of_same base g h ≡ refused 4
+      many-lines l = asked_is true true false e (le-leb n.rows 24 few) (lt-leb lines 32 l)
 
-      pub no-question : lines ≤ 32 → 0 ≡ question_in (asked_of_same base g h)
-      no-question l = sym (asked_is true true true e (le-leb n.rows 24 few) (le-leb lines 32 l))
-
-  -- there is room where no question gets a no
-  pub room-there : 0 ≡ question_in (asked_of_same base g h) → (n.rows ≤ 24) × (lines ≤ 32)
-  room-there z =
-      by_test n.agree
-      (λ a. by_test (leb n.rows 24)
-      (λ r. by_test (leb lines 32) (λ l. (leb-true n.rows 24 r, leb-true lines 32 l)) (λ l. absurd (omega (arith, z ∙ asked_is true true false a r l))))
-      (λ r. absurd (omega (arith, z ∙ asked_is true false (leb lines 32) a r refl))))
-      (λ a. absurd (omega (arith, z ∙ asked_is false (leb n.rows 24) (leb lines 32) a refl refl)))
+      pub no-question : lines ≤ 32 → asked_of_same base g h ≡ accepted (merged g h) []
+      no-question l = asked_is true true true e (le-leb n.rows 24 few) (le-leb lines 32 l)
 
 -- ---- two files
 
@@ -85,12 +62,12 @@ module _ (first second : List ℕ) where
   unfolding merged_file
   by_files p r ep er = ap₂ (merged_by base) ep er
 
-  pub first-refused : (t : Tables) → t ≡ tables_at base first → ¬ (t.refused ≡ 0) → merged_file base first second ≡ refused t.refused
-  first-refused t is n = by_files (refused t.refused) (file base second) (refused-file base first t is n) refl
+  pub first-refused : (q : ℕ) → in_tables (file base) first ≡ refused q → merged_file base first second ≡ refused q
+  first-refused q e = by_files (refused q) (file base second) (refused-file base first q e) refl
 
   module _ {g : Guard} {rest : List ℕ} (e : file base first ≡ accepted g rest) where
-    pub second-refused : (t : Tables) → t ≡ tables_at base second → ¬ (t.refused ≡ 0) → merged_file base first second ≡ refused t.refused
-    second-refused t is n = by_files (accepted g rest) (refused t.refused) e (refused-file base second t is n)
+    pub second-refused : (q : ℕ) → in_tables (file base) second ≡ refused q → merged_file base first second ≡ refused q
+    second-refused q e' = by_files (accepted g rest) (refused q) e (refused-file base second q e')
 
     module _ {h : Guard} {rest' : List ℕ} (e' : file base second ≡ accepted h rest') where
       by-types : (b : Bool) → same_bytes (type_part g.types) (type_part h.types) ≡ b → merged_file base first second ≡ cond b (asked_of_same base g h) (refused 15)

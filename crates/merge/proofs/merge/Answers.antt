@@ -1,14 +1,18 @@
 -- `merge`: both files are read, their types compared, and the guards merged. Assumes nothing.
-use mathlib.Core.Path.{◌≡◌, ap, ap₂, sym, ◌∙◌}
+use mathlib.Core.Path.{◌≡◌, ap, sym, subst, ◌∙◌}
 use mathlib.Core.Bool.{Bool, true}
 use mathlib.Core.List.{List}
 use Prim.Native.Nat.{ℕ}
-use native.Mathlib.Omega.{arith}
-use lib.ListN.{length, length-replicate, replicate}
+use lib.ListN.{length, length-replicate}
+use Rattle.std.proofs.lemmas.Result.{err_from_is_err_and}
+use Rattle.guard.specs.Guard.{Guard}
+use Rattle.guard.specs.Limits.{base}
+use Rattle.guard.specs.Number.{Parsed}
+use Rattle.guard.specs.Question.{number_of}
+use Rattle.guard.specs.declared.Question.TheVariants.{TypesDiffer}
 use Rattle.serialize.specs.Tokens.{bytes_of}
-use Rattle.filewriter.specs.Writer.{answer_to, left_by}
-use Rattle.filewriter.proofs.Answers.{answers-refused}
-use Rattle.merged.specs.Merge.{same_bytes, type_part}
+use Rattle.filewriter.proofs.Answers.{Answers, answers-refused}
+use Rattle.merged.specs.Merge.{asked_of_same, same_bytes, type_part}
 use Rattle.reader.specs.declared.Tables.{Tables}
 use Rattle.sametypes.specs.Same.{SameTypes}
 use Rattle.sametypes.proofs.SamePart.{same-held}
@@ -28,42 +32,37 @@ module _ {first second : List ℕ} {a b : Tables} (one : Opened first a) (other 
   both : r ≡ true → BothOf a b one.guard other.guard
   both e = record { one = one.tables; other = other.tables; types = same-held (types-held one.tables) (types-held other.tables) (same e) }
 
-pub returns-then-a-ne0 : goal.returns-then-a-ne0
-returns-then-a-ne0 c = let a = answers-refused bytes_of (first-refused c.args.first.now c.args.second.now c.read-a.result c.read-a.ensures c.if-a-ne0.true) (length c.args.out.now) c.clear.ensures in
-    record {
-      value = c.refused.ensures ∙ a.0;
-      out_after = a.1;
-    }
+pub returns-in_err-a : goal.returns-in_err-a
+returns-in_err-a c = let q = c.in_err-a.field-0.0 in
+    let a = answers-refused bytes_of q (first-refused c.args.first.now c.args.second.now (number_of q) c.in_err-a.ensures) (length c.args.out.now) c.clear.ensures in
+    let p = err_from_is_err_and c.from_residual.result c.from_residual.ensures.1 in
+    rw (p.1, p.2) (record { value = a.0; out_after = a.1 })
 
-pub returns-then-b-ne0 : goal.returns-then-b-ne0
-returns-then-b-ne0 c =
-    let one : Opened c.args.first.now c.read-a.result = opened _ _ c.read-a.ensures (omega (arith, c.if-a-ne0.false)) in
-    let a = answers-refused bytes_of (second-refused c.args.first.now c.args.second.now one.is c.read-b.result c.read-b.ensures c.if-b-ne0.true) (length c.args.out.now) c.clear.ensures in
-    record { value = c.refused-then-b-ne0.ensures ∙ a.0; out_after = a.1 }
+pub returns-in_err-b : goal.returns-in_err-b
+returns-in_err-b c = let q = c.in_err-b.field-0.0 in
+    let one = opened c.args.first.now c.in_ok-a.a c.in_ok-a.ensures in
+    let a = answers-refused bytes_of q (second-refused c.args.first.now c.args.second.now one.is (number_of q) c.in_err-b.ensures) (length c.args.out.now) c.clear.ensures in
+    let p = err_from_is_err_and c.from_residual-in_err-b.result c.from_residual-in_err-b.ensures.1 in
+    rw (p.1, p.2) (record { value = a.0; out_after = a.1 })
 
 pub returns-then-not-same_types : goal.returns-then-not-same_types
-returns-then-not-same_types c =
-    let one : Opened c.args.first.now c.read-a.result = opened _ _ c.read-a.ensures (omega (arith, c.if-a-ne0.false)) in
-    let other : Opened c.args.second.now c.read-b.result = opened _ _ c.read-b.ensures (omega (arith, c.if-b-ne0.false)) in
+returns-then-not-same_types c = let one = opened c.args.first.now c.in_ok-a.a c.in_ok-a.ensures in
+    let other = opened c.args.second.now c.in_ok-b.b c.in_ok-b.ensures in
     let differ = sym (compared one other c.same_types.ensures) ∙ c.if-not-same_types.true in
-    let a = answers-refused bytes_of (types_differ c.args.first.now c.args.second.now one.is other.is differ) (length c.args.out.now) c.clear.ensures in
-    record { value = c.refused-then-not-same_types.ensures ∙ a.0; out_after = a.1 }
+    let a = answers-refused bytes_of TypesDiffer (types_differ c.args.first.now c.args.second.now one.is other.is differ) (length c.args.out.now) c.clear.ensures in
+    record { value = a.0; out_after = a.1 }
 
-pub merge_guards-requires : goal.merge_guards-requires
-merge_guards-requires c =
-    let one : Opened c.args.first.now c.read-a.result = opened _ _ c.read-a.ensures (omega (arith, c.if-a-ne0.false)) in
-    let other : Opened c.args.second.now c.read-b.result = opened _ _ c.read-b.ensures (omega (arith, c.if-b-ne0.false)) in
-    let long : length c.clear.new.out ≡ length c.args.out.now = ap length c.clear.ensures ∙ length-replicate (length c.args.out.now) 0 in
-    record {
-      two_guards = record { one = _; other = _; both = both one other c.same_types.ensures c.if-not-same_types.false };
-      out_value = c.clear.ensures ∙ ap (λ (k : ℕ). replicate k 0) (sym long);
-    }
+pub merge_guards-requires-clause-two_guards : goal.merge_guards-requires-clause-two_guards
+merge_guards-requires-clause-two_guards c = let one = opened c.args.first.now c.in_ok-a.a c.in_ok-a.ensures in
+    let other = opened c.args.second.now c.in_ok-b.b c.in_ok-b.ensures in
+    record { one = _; other = _; both = both one other c.same_types.ensures c.if-not-same_types.false }
 
 pub returns : goal.returns
-returns c =
-    let one : Opened c.args.first.now c.read-a.result = opened _ _ c.read-a.ensures (omega (arith, c.if-a-ne0.false)) in
-    let other : Opened c.args.second.now c.read-b.result = opened _ _ c.read-b.ensures (omega (arith, c.if-b-ne0.false)) in
+returns c = let one = opened c.args.first.now c.in_ok-a.a c.in_ok-a.ensures in
+    let other = opened c.args.second.now c.in_ok-b.b c.in_ok-b.ensures in
     let long : length c.clear.new.out ≡ length c.args.out.now = ap length c.clear.ensures ∙ length-replicate (length c.args.out.now) 0 in
-    let a = c.merge_guards.ensures.answers _ _ (both one other c.same_types.ensures c.if-not-same_types.false) in
     let is = types_same c.args.first.now c.args.second.now one.is other.is (same one other c.same_types.ensures c.if-not-same_types.false) in
-    record { value = a.0 ∙ ap₂ answer_to (sym is) long; out_after = a.1 ∙ ap₂ left_by (sym is) long }
+    let a = c.merge_guards.ensures.answers _ _ (both one other c.same_types.ensures c.if-not-same_types.false) in
+    let w = subst (λ (n : ℕ). Answers bytes_of (asked_of_same base one.guard other.guard) n c.merge_guards.result c.merge_guards.new.out) long a in
+    let v = subst (λ (p : Parsed Guard). Answers bytes_of p (length c.args.out.now) c.merge_guards.result c.merge_guards.new.out) (sym is) w in
+    record { value = v.0; out_after = v.1 }
