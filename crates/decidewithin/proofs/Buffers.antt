@@ -10,7 +10,7 @@ use borrow.Author.Tests.{le-leb, leb-true, lt-leb}
 use Rattle.laws.proofs.Bools.{and_both, and_left, and_right, by_test}
 use Rattle.guard.specs.File.{file}
 use Rattle.guard.specs.Limits.{Supported, row_buffer}
-use Rattle.reader.specs.Reader.{limits_of, tables_at}
+use Rattle.reader.specs.Reader.{in_tables, limits_of}
 use Rattle.messages.specs.Messages.{rows_enough}
 use Rattle.messages.proofs.FewRows.{rows-small}
 use Rattle.decidewithin.specs.CallerLimits.{limits_for, rows_sufficing}
@@ -39,8 +39,8 @@ module _ (types terms lines : ℕ) where
   caller_rows = rows_suffice (min types 6) (min terms 24) (omega arith) (omega arith)
 
   -- what is read doesn't depend on the buffers
-  pub caller_tables : (bytes : List ℕ) → tables_at (limits_of types terms lines) bytes ≡ tables_at (limits_for types terms lines) bytes
-  unfolding tables_at file
+  pub caller_tables : (bytes : List ℕ) → in_tables (file (limits_for types terms lines)) bytes ≡ in_tables (file (limits_of types terms lines)) bytes
+  unfolding file
   caller_tables bytes = refl
 
 -- ---- the length of the row buffer

@@ -1,7 +1,7 @@
 -- The answer to a file, from the questions and the answer to its tables. Assumes nothing.
 use mathlib.Core.Path.{◌≡◌, refl, ap, ap₂, sym, ◌∙◌}
 use mathlib.Core.Bool.{Bool, true, false, ◌&&◌}
-use mathlib.Core.List.{List}
+use mathlib.Core.List.{List, []}
 use Prim.Native.Nat.{ℕ, ◌*◌, ◌≤◌, ◌<◌}
 use native.Mathlib.Omega.{arith}
 use lib.Dec.{leb}
@@ -22,7 +22,7 @@ use Rattle.guard.proofs.AnswerLaws.{enough, long_buffers, too_few}
 use Rattle.guard.proofs.Accepted.{accepted_well_formed}
 use Rattle.guard.proofs.Claims.{accepts-all}
 use Rattle.theory.proofs.Theorems.{closed_unsatisfiable}
-use Rattle.reader.specs.Reader.{guard_tables, tables_at}
+use Rattle.reader.specs.Reader.{in_tables}
 use Rattle.reader.specs.declared.Tables.{Tables}
 use Rattle.decidewithin.specs.Decides.{Decides}
 use Rattle.searchanswer.specs.Searched.{AnswersTables}
@@ -30,8 +30,8 @@ use Rattle.cleared.proofs.Cleared.{long_zero}
 use Rattle.search.specs.Nodes.{Accepted}
 use Rattle.messages.specs.Messages.{RoomFor, rows_enough}
 use Rattle.messages.proofs.CallLaws.{many-terms, many-types}
-use Rattle.reader.proofs.TablesRead.{guard-tables, refused-file, taken-file}
-use Rattle.roots.proofs.TablesRead.{guard-accepted}
+use Rattle.reader.proofs.TablesRead.{Taken, refused-file, taken-file}
+use Rattle.roots.proofs.TablesRead.{guard-accepted, guard-tables}
 use Rattle.decidewithin.proofs.Buffers.{rows_rise}
 
 -- ---- verdicts and visits
@@ -112,15 +112,17 @@ module _ (limits : Limits) (bytes : List ℕ) (budget : ℕ) (rows places rows' 
         (λ e. ap (λ (b : Bool). after_buffers (b && leb (place_buffer limits) (length places)) limits bytes) e ∙ ap (λ (b : Bool). after_buffers b limits bytes) (lt-leb (place_buffer limits) (length places) h))
         (λ e. ap (λ (b : Bool). after_buffers (b && leb (place_buffer limits) (length places)) limits bytes) e))
 
-    module _ (room_rows : row_buffer limits ≤ length rows) (room_places : place_buffer limits ≤ length places) (t : Tables) (is : t ≡ tables_at limits bytes) where
-      -- the questions of the file
-      pub file-refused : ¬ (t.refused ≡ 0) → Answered (Refused t.refused)
-      file-refused n = refused_decides t.refused (long_buffers limits bytes (length rows) (length places) room_rows room_places ∙ refused-file limits bytes t is n)
+    -- the questions of the file
+    pub file-refused : row_buffer limits ≤ length rows → place_buffer limits ≤ length places → (q : ℕ) → in_tables (file limits) bytes ≡ refused q → Answered (Refused q)
+    file-refused room_rows room_places q e = refused_decides q (long_buffers limits bytes (length rows) (length places) room_rows room_places ∙ refused-file limits bytes q e)
 
   -- ---- the others
 
   module _ (sup : Supported limits) (suffice : rows_enough limits.types limits.terms ≤ limits.rows) (room_rows : row_buffer limits ≤ length rows) (room_places : place_buffer limits ≤ length places)
-      (t : Tables) (is : t ≡ tables_at limits bytes) (taken : t.refused ≡ 0) where
+      (t : Tables) (read : in_tables (file limits) bytes ≡ accepted t []) where
+    taken : Taken limits bytes t
+    taken = taken-file limits bytes t read
+
     same-questions : questions limits bytes (length rows) (length places) ≡ file limits bytes
     same-questions = long_buffers limits bytes (length rows) (length places) room_rows room_places
 
@@ -133,24 +135,24 @@ module _ (limits : Limits) (bytes : List ℕ) (budget : ℕ) (rows places rows' 
     -- and the buffers have room for what is read
     pub read-room : RoomFor t rows places
     read-room =
-        let (g, rest, e) = taken-file limits bytes t is taken in
-        let ok : Accepted g = guard-accepted limits sup bytes g rest e in
-        let same : t ≡ guard_tables g = guard-tables limits bytes t is g rest e in
-        let size : rows_enough t.types.many t.rows.many ≡ rows_enough (length g.types) (length g.rows) = ap₂ (λ (a b : ℕ). rows_enough a b) (many-types t g ok same) (many-terms t g ok same) in
-        (fits (rows_enough t.types.many t.rows.many) size (guard-rows g rest e), omega (arith, many-terms t g ok same, (accepted_well_formed limits sup bytes g rest e).term_count))
+        let k : Taken limits bytes t = taken in
+        let g : Guard = k.guard in
+        let ok : Accepted g = guard-accepted limits sup bytes g [] k.parsed in
+        let size : rows_enough t.types.many t.rows.many ≡ rows_enough (length g.types) (length g.rows) = ap₂ (λ (a b : ℕ). rows_enough a b) (many-types t g ok k.is) (many-terms t g ok k.is) in
+        (fits (rows_enough t.types.many t.rows.many) size (guard-rows g [] k.parsed), omega (arith, many-terms t g ok k.is, (accepted_well_formed limits sup bytes g [] k.parsed).term_count))
       where
         fits : (n : ℕ) {k : ℕ} → n ≡ k → k ≤ limits.rows → 4 * n ≤ length rows
         fits n e h = omega (arith, e, room_rows)
 
     module _ (r : Answer) (a : AnswersTables t budget rows places r rows' places') where
       answer_of : (g : Guard) (rest : List ℕ) → file limits bytes ≡ accepted g rest → outcome_of r ≡ with_budget budget (search_of g)
-      answer_of g rest e = a.says g (guard-accepted limits sup bytes g rest e) (guard-tables limits bytes t is g rest e)
+      answer_of g rest e = a.says g (guard-accepted limits sup bytes g rest e) (guard-tables limits bytes t read g rest e)
 
       answer-says : outcome_of r ≡ outcome limits bytes budget (length rows) (length places)
       unfolding outcome
       answer-says =
-          let (g, rest, e) = taken-file limits bytes t is taken in
-          answer_of g rest e ∙ sym (ap (after_questions budget) (same-questions ∙ e))
+          let k : Taken limits bytes t = taken in
+          answer_of k.guard [] k.parsed ∙ sym (ap (after_questions budget) (same-questions ∙ k.parsed))
 
       none_hold : (g : Guard) (rest : List ℕ) → file limits bytes ≡ accepted g rest → (c : Counts) → outcome_of r ≡ unsat c → ¬ Satisfiable g
       none_hold g rest e c h =
@@ -166,6 +168,6 @@ module _ (limits : Limits) (bytes : List ℕ) (budget : ℕ) (rows places rows' 
             cleared = a.cleared;
             shown = λ g rest q n h.
                 let e : file limits bytes ≡ accepted g rest = sym same-questions ∙ q in
-                a.shown g (guard-accepted limits sup bytes g rest e) (guard-tables limits bytes t is g rest e) n h limits (guard-rows g rest e);
+                a.shown g (guard-accepted limits sup bytes g rest e) (guard-tables limits bytes t read g rest e) n h limits (guard-rows g rest e);
             dead = λ g rest q n h. none_hold g rest (sym same-questions ∙ q) n h;
           }

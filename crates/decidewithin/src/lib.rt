@@ -2,13 +2,15 @@
 // `specs/CallerLimits.antt` what the limits are.
 #![tactic(auto)]
 
-ghost use Rattle.std.specs.Prelude.{◌≡◌, min};
+ghost use Rattle.std.specs.Prelude.{◌≡◌, pos, length, min, replicate};
 ghost use Rattle.guard.specs.Limits.{row_buffer};
+ghost use Rattle.guard.specs.Question.{number_of};
+ghost use Rattle.guard.specs.declared.Answer.TheVariants.{Refused};
 ghost use Rattle.decidewithin.specs.CallerLimits.{limits_for};
 ghost use Rattle.decidewithin.specs.Decides.{Decides};
 
 use cleared::clear_both;
-use guard::Answer;
+use guard::{Answer, Question};
 use searchanswer::answer_search;
 
 // The numbers that the row buffer of a caller with these limits has at least.
@@ -34,6 +36,18 @@ fn place_buffer(terms: u32) -> usize
     24
 }
 
+// The answer after a question that got a no; both buffers are cleared.
+fn refuse(question: Question, rows: &mut [i32], places: &mut [i32]) -> Answer
+    ensures value { result ≡ Refused (number_of question) }
+    ensures rows_after { rows.new ≡ replicate (length rows.old) (pos 0) }
+    ensures places_after { places.new ≡ replicate (length places.old) (pos 0) }
+{
+    clear_both(rows, places);
+    Answer::Refused {
+        question: question.number(),
+    }
+}
+
 // The answer to a guard file within these limits and a budget of nodes. After SAT the buffers show messages, else they are all 0.
 pub fn decide_within(
     types: u32,
@@ -47,19 +61,13 @@ pub fn decide_within(
     ensures { Decides (limits_for types terms lines) file.now budget rows.old places.old result rows.new places.new }
 {
     if rows.len() < row_buffer(types, terms) {
-        clear_both(rows, places);
-        return Answer::Refused { question: 1 };
+        return refuse(Question::ShortBuffer, rows, places);
     }
     if places.len() < place_buffer(terms) {
-        clear_both(rows, places);
-        return Answer::Refused { question: 1 };
+        return refuse(Question::ShortBuffer, rows, places);
     }
-    let t = reader::read(file, types, terms, lines);
-    if t.refused != 0 {
-        clear_both(rows, places);
-        return Answer::Refused {
-            question: t.refused,
-        };
+    match reader::read(file, types, terms, lines) {
+        Ok(t) => answer_search(t, budget, rows, places),
+        Err(q) => refuse(q, rows, places),
     }
-    answer_search(t, budget, rows, places)
 }

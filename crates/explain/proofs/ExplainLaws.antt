@@ -2,6 +2,7 @@
 use mathlib.Core.Path.{◌≡◌, refl, ap, sym, ◌∙◌}
 use mathlib.Core.Bool.{Bool, true, false, cond, false≢true}
 use mathlib.Core.List.{List, []}
+use Rattle.std.proofs.Common.{Result, Ok, Err, IsOk}
 use Prim.Native.Nat.{ℕ, ◌-◌}
 use native.Mathlib.Omega.{arith}
 use lib.Dec.{leb}
@@ -16,11 +17,13 @@ use Rattle.guard.specs.Search.{Counts, search_of}
 use Rattle.guard.specs.declared.Answer.{Answer}
 use Rattle.guard.specs.declared.Answer.TheVariants.{Refused, Sat, Unsat, Spent}
 use Rattle.guard.proofs.Claims.{base-supported}
+use Rattle.guard.specs.Question.{number_of}
+use Rattle.guard.specs.declared.Question.{Question}
+use Rattle.numbers.specs.Reader.{ReadsAll}
 use Rattle.reader.specs.declared.Tables.{Tables}
-use Rattle.reader.specs.Reader.{tables_at}
-use Rattle.roots.specs.Roots.{GuardsTables}
-use Rattle.reader.proofs.TablesRead.{guard-tables}
-use Rattle.roots.proofs.TablesRead.{guard-accepted}
+use Rattle.reader.specs.Reader.{in_tables}
+use Rattle.reader.proofs.TablesRead.{refused-file}
+use Rattle.roots.proofs.TablesRead.{guard-accepted, guard-tables}
 use Rattle.refutations.specs.Record.{record_bytes}
 use Rattle.recordwriter.specs.declared.Written.{Written}
 use Rattle.bytebuffer.specs.Puts.{filled}
@@ -33,16 +36,17 @@ use Rattle.explain.specs.Explains.{Explains, RecordsFile, Taken, ask_record, exp
 
 -- ---- the record of an accepted file
 
-module _ {bytes : List ℕ} {t : Tables} (is : t ≡ tables_at base bytes) where
-  pub taken-tables : Taken bytes → GuardsTables t
-  taken-tables k =
-      record { guard = k.guard; accepted = guard-accepted base base-supported bytes k.guard k.rest k.is; is = guard-tables base bytes t is k.guard k.rest k.is }
+-- it is read
+pub file-read : (bytes : List ℕ) (r : Result Tables Question) → ReadsAll (in_tables (file base) bytes) r → Taken bytes → IsOk r
+file-read bytes (Ok t) e k = refl
+file-read bytes (Err q) e k = let f : accepted k.guard k.rest ≡ refused (number_of q) = sym k.is ∙ refused-file base bytes (number_of q) e in absurd cc
 
+module _ {bytes : List ℕ} {t : Tables} (read : in_tables (file base) bytes ≡ accepted t []) where
   pub file-record : {w : Written} {lent lent' : List ℕ} → Records t w lent lent' → RecordsFile bytes w lent lent'
   file-record r =
       record {
-        says = λ g rest e. r.says g (guard-accepted base base-supported bytes g rest e) (guard-tables base bytes t is g rest e);
-        left = λ g rest e. r.left g (guard-accepted base base-supported bytes g rest e) (guard-tables base bytes t is g rest e);
+        says = λ g rest e. r.says g (guard-accepted base base-supported bytes g rest e) (guard-tables base bytes t read g rest e);
+        left = λ g rest e. r.left g (guard-accepted base base-supported bytes g rest e) (guard-tables base bytes t read g rest e);
       }
 
 -- ---- answers other than UNSAT

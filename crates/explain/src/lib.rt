@@ -31,7 +31,7 @@ fn write_file_record(file: &[u8], record: &mut [u8]) -> Written
     requires { Taken file.now }
     ensures { RecordsFile file.now result «record».old «record».new }
 {
-    let tables = reader::read(file, 6, 24, 32);
+    let tables = reader::read(file, 6, 24, 32).unwrap();
     let problem = problem::problem_of(tables);
     recordwriter::write_record(tables, problem, record)
 }

@@ -1,8 +1,7 @@
 -- The whole search of a guard, by its tables. Assumes nothing: definitions.
 use Rattle.std.specs.Prelude.{◌≡◌, false, List, ℕ, replicate}
-use Rattle.std.proofs.Math.Option.{none}
-use Rattle.guard.specs.Guard.{Guard, Literal.is}
-use Rattle.guard.specs.Search.{search, search_of}
+use Rattle.guard.specs.Guard.{Guard}
+use Rattle.guard.specs.Search.{search_of}
 use Rattle.reader.specs.declared.Tables.{Tables}
 use Rattle.reader.specs.Reader.{guard_tables}
 use Rattle.classes.specs.Held.{state}
