@@ -5,23 +5,23 @@ use mathlib.Core.List.{List}
 use Prim.Native.Nat.{ℕ}
 use native.Mathlib.Omega.{arith}
 use lib.ListN.{drop}
+use Rattle.std.specs.Prelude.{Ok, Err}
 use Rattle.guard.specs.File.{count, types}
 use Rattle.guard.specs.Limits.{base}
 use Rattle.guard.specs.Number.{Parsed, Parsed.accepted, Parsed.refused, Parser, ◌>>=◌, ◌>>◌, and_then, ask, return}
+use Rattle.guard.specs.Question.{number_of}
 use Rattle.guard.specs.Types.{Types, all_defaults, defaults, infinite_fields}
+use Rattle.guard.specs.declared.Question.{Question}
+use Rattle.guard.specs.declared.Question.TheVariants.{NoDefault, NoInfiniteField}
 use Rattle.tables.specs.Layout.{default_column, types_of}
-use Rattle.datatypes.specs.Facts.{refused_at, type_facts}
-use Rattle.datatypes.specs.declared.TypeFacts.{TypeFacts}
-use Rattle.numbers.specs.Reader.{below_at}
-use Rattle.numbers.specs.declared.Number.{Number}
-use Rattle.numbers.proofs.Answers.{below-says, below-small, goes_on, stops}
-use Rattle.numbers.proofs.NumberLaws.{count-is}
-use Rattle.typereader.specs.TypeReader.{types_at, types_part}
-use Rattle.typereader.specs.declared.TypesRead.{TypesRead}
+use Rattle.tables.specs.declared.TypeTable.{TypeTable}
+use Rattle.datatypes.specs.Facts.{type_facts}
+use Rattle.numbers.specs.Reader.{Found, below}
+use Rattle.numbers.proofs.CountLaws.{below_is, count-is}
+use Rattle.typereader.specs.TypeReader.{table_by, types_part}
 use Rattle.typereader.proofs.TypeReaderLaws.{TypesFound, types-found, types-refused}
 use Rattle.columnfile.specs.Columns.{columns, restored_head}
-use Rattle.restore.specs.Restoring.{HeadSays, TypesTaken, head_of}
-use Rattle.restore.specs.declared.Head.{Head}
+use Rattle.restore.specs.Restoring.{HeadTaken, TypesTaken, head_of}
 
 abbrev after_count : Types → ℕ → Parser (List ℕ)
 after_count ts n = columns ts n >>= λ cs. return (head_of ts n cs)
@@ -37,85 +37,68 @@ head-parts bytes = go (count 6 bytes)
     go (refused q) = refl
     go (accepted many rest) = refl
 
--- a head that is refused
-pub head-refused : {bytes : List ℕ} (r : Head) → restored_head base bytes ≡ refused r.refused → ¬ (r.refused ≡ 0) → HeadSays bytes r
-head-refused r e n = record { accepts = λ z. absurd (n z); refuses = λ m. e }
+-- 2 to 5
+pub types_stop : (bytes : List ℕ) (q : ℕ) → table_by 6 bytes ≡ refused q → restored_head base bytes ≡ refused q
+types_stop bytes q e = head-parts bytes ∙ ap (and_then (λ ts. asked ts (all_defaults ts) (infinite_fields ts))) (types-refused bytes 6 q e)
 
-module _ (bytes : List ℕ) (t : TypesRead) (is_t : t ≡ types_at bytes 6) where
-  -- 2 to 5
-  pub types_stop : ¬ (t.refused ≡ 0) → restored_head base bytes ≡ refused t.refused
-  types_stop n = head-parts bytes ∙ ap (and_then (λ ts. asked ts (all_defaults ts) (infinite_fields ts))) (types-refused bytes 6 t is_t n)
+module _ (bytes : List ℕ) (table : TypeTable) (at : ℕ) (read : Found (table_by 6 bytes) bytes table at) where
+  pub found : TypesFound bytes 6 table at
+  found = types-found bytes 6 (omega arith) table at read
 
-  module _ (types_read : t.refused ≡ 0) where
-    pub found : TypesFound bytes 6 t
-    found = types-found bytes 6 t is_t (omega arith) types_read
+  abbrev ts : Types
+  ts = found.ts
 
-    abbrev ts : Types
-    ts = found.ts
+  asked_by : (a b : Bool) → all_defaults ts ≡ a → infinite_fields ts ≡ b → restored_head base bytes ≡ asked ts a b (drop at bytes)
+  asked_by a b p q = head-parts bytes ∙ ap (and_then (λ us. asked us (all_defaults us) (infinite_fields us))) found.parsed ∙ rw (p, q) refl
 
-    asked_by : (a b : Bool) → all_defaults ts ≡ a → infinite_fields ts ≡ b → restored_head base bytes ≡ asked ts a b (drop t.at bytes)
-    asked_by a b p q =
-        head-parts bytes ∙ ap (and_then (λ us. asked us (all_defaults us) (infinite_fields us))) found.parsed
-        ∙ ap (λ (x : Bool). asked ts x (infinite_fields ts) (drop t.at bytes)) p ∙ ap (λ (x : Bool). asked ts a x (drop t.at bytes)) q
+  facts_by : (a b : Bool) → all_defaults ts ≡ a → infinite_fields ts ≡ b → type_facts (types_of table) ≡ cond a (cond b (Ok (default_column (defaults ts))) (Err NoInfiniteField)) (Err NoDefault)
+  unfolding type_facts
+  facts_by a b p q = ap type_facts found.back ∙ rw (p, q) refl
 
-    module _ (f : TypeFacts) (is_f : f ≡ type_facts (types_of t.table)) where
-      abbrev settled : TypeFacts
-      settled = record { refused = 0; defaults = default_column (defaults ts) }
+  -- 8 and 9
+  pub facts_stop : (q : Question) → type_facts (types_of table) ≡ Err q → restored_head base bytes ≡ refused (number_of q)
+  facts_stop q is = go (all_defaults ts) (infinite_fields ts) refl refl
+    where
+      go : (a b : Bool) → all_defaults ts ≡ a → infinite_fields ts ≡ b → restored_head base bytes ≡ refused (number_of q)
+      go false b p r = let e = sym is ∙ facts_by false b p r in let z : NoDefault ≡ q = cc in asked_by false b p r ∙ ap (λ (x : Question). refused (number_of x)) z
+      go true false p r = let e = sym is ∙ facts_by true false p r in let z : NoInfiniteField ≡ q = cc in asked_by true false p r ∙ ap (λ (x : Question). refused (number_of x)) z
+      go true true p r = let e = sym is ∙ facts_by true true p r in absurd cc
 
-      facts_by : (a b : Bool) → all_defaults ts ≡ a → infinite_fields ts ≡ b → f.refused ≡ (cond a (cond b settled (refused_at 9)) (refused_at 8)).refused
-      unfolding type_facts
-      facts_by a b p q =
-          ap (λ (x : TypeFacts). x.refused) (is_f ∙ ap type_facts found.back)
-          ∙ ap (λ (x : Bool). (cond x (cond (infinite_fields ts) settled (refused_at 9)) (refused_at 8)).refused) p
-          ∙ ap (λ (x : Bool). (cond a (cond x settled (refused_at 9)) (refused_at 8)).refused) q
+  module _ (ds : List ℕ) (is : type_facts (types_of table) ≡ Ok ds) where
+    pass : (all_defaults ts ≡ true) × (infinite_fields ts ≡ true)
+    pass = go (all_defaults ts) (infinite_fields ts) refl refl
+      where
+        go : (a b : Bool) → all_defaults ts ≡ a → infinite_fields ts ≡ b → (all_defaults ts ≡ true) × (infinite_fields ts ≡ true)
+        go false b p q = let e = sym is ∙ facts_by false b p q in absurd cc
+        go true false p q = let e = sym is ∙ facts_by true false p q in absurd cc
+        go true true p q = (p, q)
 
-      -- 8 and 9
-      pub facts_stop : ¬ (f.refused ≡ 0) → restored_head base bytes ≡ refused f.refused
-      facts_stop n = go (all_defaults ts) (infinite_fields ts) refl refl
-        where
-          go : (a b : Bool) → all_defaults ts ≡ a → infinite_fields ts ≡ b → restored_head base bytes ≡ refused f.refused
-          go false b p q = asked_by false b p q ∙ ap (λ (k : ℕ). refused k) (sym (facts_by false b p q))
-          go true false p q = asked_by true false p q ∙ ap (λ (k : ℕ). refused k) (sym (facts_by true false p q))
-          go true true p q = absurd (n (facts_by true true p q))
+    taken : TypesTaken table ts
+    taken =
+        record {
+          are = found.is;
+          many = found.fit.few;
+          total = found.fit.total;
+          fit = found.fit.each;
+          range = found.range;
+          back = found.back;
+          ready = pass.0;
+          infinite = pass.1;
+        }
 
-      module _ (facts_read : f.refused ≡ 0) where
-        pass : (all_defaults ts ≡ true) × (infinite_fields ts ≡ true)
-        pass = go (all_defaults ts) (infinite_fields ts) refl refl
-          where
-            go : (a b : Bool) → all_defaults ts ≡ a → infinite_fields ts ≡ b → (all_defaults ts ≡ true) × (infinite_fields ts ≡ true)
-            go false b p q = absurd (omega (arith, facts_read, facts_by false b p q))
-            go true false p q = absurd (omega (arith, facts_read, facts_by true false p q))
-            go true true p q = (p, q)
+    -- N
+    counted : restored_head base bytes ≡ and_then (after_count ts) (below 25 4 (drop at bytes))
+    counted = asked_by true true pass.0 pass.1 ∙ ap (and_then (after_count ts)) (count-is 24 (drop at bytes))
 
-        taken : TypesTaken t.table ts
-        taken =
-            record {
-              are = found.table;
-              many = found.few;
-              total = omega (arith, found.fit.1);
-              fit = found.fit.2;
-              range = found.range;
-              back = found.back;
-              ready = pass.0;
-              infinite = pass.1;
-            }
+    pub count_stop : (q : ℕ) → below 25 4 (drop at bytes) ≡ refused q → restored_head base bytes ≡ refused q
+    count_stop q e = counted ∙ ap (and_then (after_count ts)) e
 
-        -- N
-        module _ (n : Number) (is_n : n ≡ below_at bytes t.at 25 4) where
-          counted : restored_head base bytes ≡ and_then (after_count ts) (count 24 (drop t.at bytes))
-          counted = asked_by true true pass.0 pass.1
-
-          pub head-says : HeadSays bytes (record { refused = n.refused; at = n.at; rows = n.value; table = t.table })
-          head-says =
-              let says = below-says bytes t.at 25 4 (omega arith) n is_n in
-              record {
-                accepts = λ z.
-                    record {
-                      ts = ts;
-                      taken = taken;
-                      few = omega (arith, below-small bytes t.at 25 4 (omega arith) n is_n z);
-                      within = says.within z;
-                      rest = counted ∙ ap (and_then (after_count ts)) (count-is 24 (drop t.at bytes)) ∙ goes_on (after_count ts) bytes _ n.refused n.at n.value says z;
-                    };
-                refuses = λ m. counted ∙ ap (and_then (after_count ts)) (count-is 24 (drop t.at bytes)) ∙ stops (after_count ts) bytes _ n.refused n.at n.value says m;
-              }
+    pub head-taken : (n next : ℕ) → Found (below 25 4 (drop at bytes)) bytes n next → HeadTaken bytes (record { at = next; rows = n; table = table })
+    head-taken n next f =
+        record {
+          ts = ts;
+          taken = taken;
+          few = omega (arith, below_is 25 4 (drop at bytes) n (drop next bytes) f.accepts);
+          within = f.within;
+          rest = counted ∙ ap (and_then (after_count ts)) f.accepts;
+        }

@@ -1,10 +1,12 @@
 -- What is asked and put on the way from cells to a restored file. Assumes nothing: definitions.
-use Rattle.std.specs.Prelude.{◌≡◌, true, List, ◌++◌, ℕ, ◌≤◌, ◌<◌, drop, length}
+use Rattle.std.specs.Prelude.{◌≡◌, true, List, ◌++◌, ℕ, ◌≤◌, ◌<◌, drop, length, Result, Ok, Err}
 use Rattle.laws.specs.All.{All}
 use Rattle.guard.specs.File.{file, literal}
 use Rattle.guard.specs.Guard.{Guard, Row}
 use Rattle.guard.specs.Limits.{base, field_limit, total_variant_limit, variant_limit}
 use Rattle.guard.specs.Number.{Parsed, Parsed.accepted, Parsed.refused, Parser, ◌>>=◌, and_then, return, value_width, width32}
+use Rattle.guard.specs.Question.{number_of}
+use Rattle.guard.specs.declared.Question.{Question}
 use Rattle.guard.specs.Types.{Types, all_defaults, infinite_fields}
 use Rattle.tables.specs.Layout.{TypesInRange, flat, type_table, types_of}
 use Rattle.tables.specs.declared.TypeTable.{TypeTable}
@@ -13,8 +15,7 @@ use Rattle.rowreader.specs.RowReader.{counted_rows}
 use Rattle.literalreader.specs.LiteralReader.{literals_by}
 use Rattle.bytebuffer.specs.declared.End.{End}
 use Rattle.bytebuffer.specs.Puts.{Puts}
-use Rattle.filewriter.specs.declared.FileWritten.{FileWritten}
-use Rattle.filewriter.specs.Writer.{answer_to, left_by}
+use Rattle.filewriter.specs.Writer.{Answered, answer_to, left_by}
 use Rattle.columnfile.specs.Columns.{columns, number_in, restored_head, restored_rows}
 use Rattle.columnreader.specs.Cells.{Holds}
 use Rattle.restore.specs.declared.Head.{Head}
@@ -47,9 +48,10 @@ pub record HeadTaken (bytes : List ℕ) (r : Head) : Type 0 where
   pub within : r.at ≤ length bytes
   pub rest : restored_head base bytes ≡ and_then (λ cs. return (head_of ts r.rows cs)) (columns ts r.rows (drop r.at bytes))
 
-pub record HeadSays (bytes : List ℕ) (r : Head) : Type 0 where
-  pub accepts : r.refused ≡ 0 → HeadTaken bytes r
-  pub refuses : ¬ (r.refused ≡ 0) → restored_head base bytes ≡ refused r.refused
+-- the head of a stored file, or the question that refuses
+abbrev pub HeadSays : List ℕ → Result Head Question → Type 0
+HeadSays bytes (Ok h) = HeadTaken bytes h
+HeadSays bytes (Err q) = restored_head base bytes ≡ refused (number_of q)
 
 -- ---- rows and lines
 
@@ -61,9 +63,15 @@ after_rows ts rs = literals_by 32 (literal ts rs) >>= λ ls. return (record { ty
 abbrev pub asked_of : Types → List ℕ → List ℕ → Parsed Guard
 asked_of ts rows rest = and_then (λ rs left. after_rows ts rs rest) (counted_rows 24 ts rows)
 
-pub record Asks (table : TypeTable) (rows rest : List ℕ) (q : ℕ) : Type 0 where
-  pub none : (ts : Types) → TypesTaken table ts → q ≡ 0 → (g : Guard) × (left : List ℕ) × (asked_of ts rows rest ≡ accepted g left)
-  pub some : (ts : Types) → TypesTaken table ts → ¬ (q ≡ 0) → asked_of ts rows rest ≡ refused q
+pub record GuardRead (ts : Types) (rows rest : List ℕ) : Type 0 where
+  pub guard : Guard
+  pub left : List ℕ
+  pub parsed : asked_of ts rows rest ≡ accepted guard left
+
+-- a guard of these types, or the question that refuses
+abbrev pub Asks : TypeTable → List ℕ → List ℕ → Result (Unit {0}) Question → Type 0
+Asks table rows rest (Ok u) = (ts : Types) → TypesTaken table ts → GuardRead ts rows rest
+Asks table rows rest (Err q) = (ts : Types) → TypesTaken table ts → asked_of ts rows rest ≡ refused (number_of q)
 
 -- ---- what is put
 
@@ -91,6 +99,6 @@ pub record Restorable (table : TypeTable) (n : ℕ) (cells : List ℕ) : Type 0 
   pub cs : List (List ℕ)
   pub is : Restored table n cells ts cs
 
-pub record AnswersRestored (table : TypeTable) (n : ℕ) (cells rest out : List ℕ) (r : FileWritten) (out' : List ℕ) : Type 0 where
+pub record AnswersRestored (table : TypeTable) (n : ℕ) (cells rest out : List ℕ) (r : Result ℕ Question) (out' : List ℕ) : Type 0 where
   pub answers : (ts : Types) (cs : List (List ℕ)) → Restored table n cells ts cs → All (λ b. b < 256) rest
-      → (r ≡ answer_to (file base (head_of ts n cs ++ rest)) (length out)) × (out' ≡ left_by (file base (head_of ts n cs ++ rest)) (length out))
+      → Answered (answer_to (file base (head_of ts n cs ++ rest)) (length out)) r × (out' ≡ left_by (file base (head_of ts n cs ++ rest)) (length out))

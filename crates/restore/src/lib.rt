@@ -4,69 +4,53 @@
 
 ghost use Rattle.std.specs.Prelude.{◌≡◌, ◌≤◌, drop, length, replicate};
 ghost use Rattle.guard.specs.Limits.{base};
-ghost use Rattle.filewriter.specs.Writer.{answer_to, left_by};
+ghost use Rattle.filewriter.specs.Writer.{Answered, answer_to, left_by};
 ghost use Rattle.columnfile.specs.Columns.{restored_file};
 ghost use Rattle.restore.specs.Restoring.{AnswersRestored, Asks, HeadSays, PutsRestored, Restorable, SomeTypes};
 
 use bytebuffer::End;
-use filewriter::FileWritten;
+use datatypes::type_facts;
+use guard::Question;
+use literalreader::read_literals;
+use numbers::read_below;
+use rowreader::read_rows;
 use tables::TypeTable;
+use typereader::read_types;
 
-// The types of a stored file, its number of rows, and where its columns begin; or the question that refused.
+// The types of a stored file, its number of rows, and where its columns begin.
 #[derive(Clone, Copy)]
 struct Head {
-    refused: u32,
     at: usize,
     rows: usize,
     table: TypeTable,
 }
 
 // Document 02: "up to N the base's questions are asked".
-fn head_of(stored: &[u8]) -> Head
+fn head_of(stored: &[u8]) -> Result<Head, Question>
     ensures { HeadSays stored.now result }
 {
-    let t = typereader::read_types(stored, 6);
-    let table = t.table;
-    if t.refused != 0 {
-        return Head {
-            refused: t.refused,
-            at: 0,
-            rows: 0,
-            table,
-        };
-    }
-    let f = datatypes::type_facts(table);
-    if f.refused != 0 {
-        return Head {
-            refused: f.refused,
-            at: 0,
-            rows: 0,
-            table,
-        };
-    }
-    let n = numbers::read_below(stored, t.at, 25, 4);
-    Head {
-        refused: n.refused,
+    let t = read_types(stored, 6)?;
+    let table = t.value;
+    type_facts(table)?;
+    let n = read_below(stored, t.at, 25, Question::TooMany)?;
+    Ok(Head {
         at: n.at,
         rows: n.value as usize,
         table,
-    }
+    })
 }
 
-// The question that N and the restored rows get a no at, or what stands behind them from `at` on; 0 if there is none.
-fn question_of(rows: &[u8], stored: &[u8], at: usize, table: TypeTable) -> u32
+// The questions put to N and the restored rows, and to what stands behind them from `at` on.
+fn asked(rows: &[u8], stored: &[u8], at: usize, table: TypeTable) -> Result<(), Question>
     requires { SomeTypes table }
     ensures { Asks table rows.now (drop at stored.now) result }
 {
-    let n = rowreader::read_rows(rows, 0, 24, table);
-    if n.refused != 0 {
-        return n.refused;
-    }
-    let t = n.rows;
+    let n = read_rows(rows, 0, 24, table)?;
+    let t = n.value;
     let counts = table.variants;
     let sorts = t.types;
-    let l = literalreader::read_literals(stored, at, 32, &counts, t.many, &sorts);
-    l.refused
+    read_literals(stored, at, 32, &counts, t.many, &sorts)?;
+    Ok(())
 }
 
 // The restored file, from the start of the buffer on.
@@ -94,7 +78,7 @@ fn restore_rows(
     n: usize,
     cells: &[u64; 144],
     out: &mut [u8],
-) -> FileWritten
+) -> Result<usize, Question>
     requires restorable { Restorable table n cells.now }
     requires at_in_bounds { at ≤ length stored.now }
     requires out_value { out.old ≡ replicate (length out.old) 0 }
@@ -103,47 +87,25 @@ fn restore_rows(
     let mut rows = [0u8; 1536];
     let end = restoredrows::put_rows(table, cells, n, &mut rows);
     let many = end.at;
-    let question = question_of(&rows[..many], stored, at, table);
-    if question != 0 {
-        return FileWritten {
-            refused: question,
-            bytes: 0,
-        };
-    }
+    asked(&rows[..many], stored, at, table)?;
     let put = put_restored(table, &rows[..many], &stored[at..], out);
     if !put.fits {
         bytebuffer::clear(out);
-        return FileWritten {
-            refused: 14,
-            bytes: 0,
-        };
+        return Err(Question::FileTooLong);
     }
-    FileWritten {
-        refused: 0,
-        bytes: put.at,
-    }
+    Ok(put.at)
 }
 
-// The file that these bytes are stored of, and zeros behind it; or the first question that gets a no, and nothing but zeros.
-pub fn restore(stored: &[u8], out: &mut [u8]) -> FileWritten
-    ensures value { result ≡ answer_to (restored_file base stored.now) (length out.old) }
+// The file that these bytes are stored of, and zeros behind it: how many bytes it has; or the first question that gets a no, and nothing but
+// zeros.
+pub fn restore(stored: &[u8], out: &mut [u8]) -> Result<usize, Question>
+    ensures value { Answered (answer_to (restored_file base stored.now) (length out.old)) result }
     ensures out_after { out.new ≡ left_by (restored_file base stored.now) (length out.old) }
 {
     bytebuffer::clear(out);
-    let h = head_of(stored);
-    if h.refused != 0 {
-        return FileWritten {
-            refused: h.refused,
-            bytes: 0,
-        };
-    }
+    let h = head_of(stored)?;
     let table = h.table;
     let mut cells = [0u64; 144];
-    match columnreader::read_columns(stored, h.at, table, h.rows, &mut cells) {
-        Ok(next) => restore_rows(stored, next, table, h.rows, &cells, out),
-        Err(q) => FileWritten {
-            refused: q.number(),
-            bytes: 0,
-        },
-    }
+    let next = columnreader::read_columns(stored, h.at, table, h.rows, &mut cells)?;
+    restore_rows(stored, next, table, h.rows, &cells, out)
 }

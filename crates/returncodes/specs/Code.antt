@@ -1,5 +1,7 @@
--- A question or a count as one number. Assumes nothing: definitions.
-use Rattle.std.specs.Prelude.{cond, ℕ, zero, suc, eqb, ℤ, pos, negsuc}
+-- A count or a question as one number. Assumes nothing: definitions.
+use Rattle.std.specs.Prelude.{ℕ, zero, suc, ℤ, pos, negsuc, Result, Ok, Err}
+use Rattle.guard.specs.Question.{number_of}
+use Rattle.guard.specs.declared.Question.{Question}
 
 -- −n
 abbrev pub minus : ℕ → ℤ
@@ -7,5 +9,11 @@ minus zero = pos 0
 minus (suc n) = negsuc n
 
 -- the count, or minus the number of the question that refused
-abbrev pub code_of : ℕ → ℕ → ℤ
-code_of question count = cond (eqb question 0) (pos count) (minus question)
+abbrev pub code_of : Result ℕ Question → ℤ
+code_of (Ok count) = pos count
+code_of (Err q) = minus (number_of q)
+
+-- 0, or the number of the question that refused
+abbrev pub question_of : Result (Unit {0}) Question → ℕ
+question_of (Ok u) = 0
+question_of (Err q) = number_of q

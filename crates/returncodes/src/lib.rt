@@ -1,16 +1,28 @@
-// One number for C from a question and a count. `specs/Code.antt` says what it is.
+// One number for C from a count or a question. `specs/Code.antt` says which.
 #![tactic(auto)]
 
-ghost use Rattle.std.specs.Prelude.{◌≡◌, ◌≤◌};
-ghost use Rattle.returncodes.specs.Code.{code_of};
+ghost use Rattle.std.specs.Prelude.{◌≡◌, ◌≤◌, IfOk};
+ghost use Rattle.returncodes.specs.Code.{code_of, question_of};
 
-// The count where nothing was refused, else minus the question's number.
-pub fn code_of(refused: u32, count: usize) -> i64
-    requires { count ≤ 4294967295 }
-    ensures { result ≡ code_of refused count }
+use guard::Question;
+
+// The count, or minus the number of the question that refused.
+pub fn code_of(answer: Result<usize, Question>) -> i64
+    requires { IfOk answer (λ count. count ≤ 4294967295) }
+    ensures { result ≡ code_of answer }
 {
-    if refused != 0 {
-        return 0 - refused as i64;
+    match answer {
+        Ok(count) => count as i64,
+        Err(q) => -i64::from(q.number()),
     }
-    count as i64
+}
+
+// 0, or the number of the question that refused.
+pub fn question_of(answer: Result<(), Question>) -> u32
+    ensures { result ≡ question_of answer }
+{
+    match answer {
+        Ok(_) => 0,
+        Err(q) => q.number(),
+    }
 }

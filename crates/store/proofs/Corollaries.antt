@@ -1,9 +1,10 @@
 -- Request #111, of what `store` answers and leaves: as many bytes as the file has, so 585 suffice. Assumes nothing.
 use mathlib.Core.Path.{◌≡◌, refl, ap, ap₂, sym, ◌∙◌}
-use mathlib.Core.List.{List, [], ◌∷◌, ◌++◌, append_assoc, append-nil}
+use mathlib.Core.List.{List, [], ◌∷◌, ◌++◌, append-nil}
 use Prim.Native.Nat.{ℕ, suc, ◌+◌, ◌≤◌, ◌<◌}
 use native.Mathlib.Omega.{arith}
 use lib.ListN.{drop, length, length-append, take}
+use Rattle.std.specs.Prelude.{Ok}
 use Rattle.laws.specs.Lists.{concat_map, from}
 use Rattle.guard.specs.File.{file}
 use Rattle.guard.specs.Guard.{Guard, Row, row_at}
@@ -18,7 +19,7 @@ use Rattle.serialize.proofs.Copying.{concat_map-append}
 use Rattle.serialize.proofs.Theorems.{well_formed-file}
 use Rattle.merged.specs.Merge.{type_part}
 use Rattle.filewriter.specs.Writer.{answer_by}
-use Rattle.filewriter.proofs.Answers.{few-told, room-told}
+use Rattle.filewriter.proofs.Answers.{room-told, wrote}
 use Rattle.columnfile.specs.Columns.{bytes_for, columns_bytes, entry, line_part, row_numbers, stored_bytes}
 use Rattle.columnfile.proofs.Inverse.{in_parts}
 use Rattle.columnfile.proofs.RowNumbers.{Sizes, at-most-six, row-bytes}
@@ -49,12 +50,12 @@ turned f js (r ∷ rs) =
 -- a row's numbers, one by one
 one_by_one : (xs : List ℕ) → length xs ≤ 6 → concat_map (λ j. bytes_for (take 1 (drop j xs))) (from 6 0) ≡ bytes_for xs
 one_by_one [] h = refl
-one_by_one (a ∷ []) h = simp (append_assoc, append-nil)
-one_by_one (a ∷ b ∷ []) h = simp (append_assoc, append-nil)
-one_by_one (a ∷ b ∷ c ∷ []) h = simp (append_assoc, append-nil)
-one_by_one (a ∷ b ∷ c ∷ d ∷ []) h = simp (append_assoc, append-nil)
-one_by_one (a ∷ b ∷ c ∷ d ∷ e ∷ []) h = simp (append_assoc, append-nil)
-one_by_one (a ∷ b ∷ c ∷ d ∷ e ∷ f ∷ []) h = simp (append_assoc, append-nil)
+one_by_one (a ∷ []) h = simp append-nil
+one_by_one (a ∷ b ∷ []) h = simp append-nil
+one_by_one (a ∷ b ∷ c ∷ []) h = simp append-nil
+one_by_one (a ∷ b ∷ c ∷ d ∷ []) h = simp append-nil
+one_by_one (a ∷ b ∷ c ∷ d ∷ e ∷ []) h = simp append-nil
+one_by_one (a ∷ b ∷ c ∷ d ∷ e ∷ f ∷ []) h = simp append-nil
 one_by_one (a ∷ b ∷ c ∷ d ∷ e ∷ f ∷ g ∷ xs) h = absurd (omega arith)
 
 each_row : (f g : Row → List ℕ) (rs : List Row) → ((i : ℕ) → i < length rs → f (row_at rs i) ≡ g (row_at rs i)) → concat_map f rs ≡ concat_map g rs
@@ -88,14 +89,14 @@ module _ (g : Guard) (w : WellFormed base g) where
       lengths : (a b c d : List ℕ) → length (a ++ (b ++ (c ++ d))) ≡ length a + (length b + (length c + length d))
       lengths a b c d = omega (arith, length-append a (b ++ (c ++ d)), length-append b (c ++ d), length-append c d)
 
-module _ (bytes : List ℕ) (n : ℕ) where
+module _ (bytes : List ℕ) where
   stored_bytes_lem : (g : Guard) (rest : List ℕ) → file base bytes ≡ accepted g rest → length (stored_bytes g) ≤ 585
   stored_bytes_lem g rest e =
       let w = accepted_well_formed base base-supported bytes g rest e in
       omega (arith, same_length g w, at-most_585 (bytes_of g) g [] (well_formed-file base base-supported g w (accepted-total base base-supported bytes g rest e)))
 
-  pub few-stored : (answer_by stored_bytes (file base bytes) n).bytes ≤ 585
-  few-stored = few-told stored_bytes (file base bytes) n 585 stored_bytes_lem
+  pub few-stored : (n k : ℕ) → answer_by stored_bytes (file base bytes) n ≡ Ok k → k ≤ 585
+  few-stored n k told = let w = wrote stored_bytes (file base bytes) n k told in omega (arith, w.many, stored_bytes_lem w.value w.rest w.is)
 
-  pub never_short : (g : Guard) (rest : List ℕ) → file base bytes ≡ accepted g rest → 585 ≤ n → (answer_by stored_bytes (file base bytes) n).refused ≡ 0
-  never_short g rest e h = room-told stored_bytes e n (omega (arith, stored_bytes_lem g rest e))
+  pub never_short : (n : ℕ) (g : Guard) (rest : List ℕ) → file base bytes ≡ accepted g rest → 585 ≤ n → answer_by stored_bytes (file base bytes) n ≡ Ok (length (stored_bytes g))
+  never_short n g rest e h = room-told stored_bytes e n (omega (arith, stored_bytes_lem g rest e))

@@ -5,34 +5,23 @@
 ghost use Rattle.std.specs.Prelude.{◌≡◌, length};
 ghost use Rattle.guard.specs.File.{file};
 ghost use Rattle.guard.specs.Limits.{base};
-ghost use Rattle.filewriter.specs.Writer.{answer_by, left_with};
+ghost use Rattle.filewriter.specs.Writer.{Answered, answer_by, left_with};
 ghost use Rattle.columnfile.specs.Columns.{stored_bytes};
 
-use filewriter::FileWritten;
+use guard::Question;
 
-// The stored bytes of an accepted file, and zeros behind them; or the first question that gets a no, and nothing but zeros.
-pub fn store(bytes: &[u8], out: &mut [u8]) -> FileWritten
-    ensures value { result ≡ answer_by stored_bytes (file base bytes.now) (length out.old) }
+// The stored bytes of an accepted file, and zeros behind them: how many bytes they are; or the first question that gets a no, and nothing
+// but zeros.
+pub fn store(bytes: &[u8], out: &mut [u8]) -> Result<usize, Question>
+    ensures value { Answered (answer_by stored_bytes (file base bytes.now) (length out.old)) result }
     ensures out_after { out.new ≡ left_with stored_bytes (file base bytes.now) (length out.old) }
 {
     bytebuffer::clear(out);
-    let t = reader::read(bytes, 6, 24, 32);
-    if t.refused != 0 {
-        return FileWritten {
-            refused: t.refused,
-            bytes: 0,
-        };
-    }
+    let t = reader::read(bytes, 6, 24, 32)?;
     let end = columnwriter::put_stored(t, out);
     if !end.fits {
         bytebuffer::clear(out);
-        return FileWritten {
-            refused: 14,
-            bytes: 0,
-        };
+        return Err(Question::FileTooLong);
     }
-    FileWritten {
-        refused: 0,
-        bytes: end.at,
-    }
+    Ok(end.at)
 }
