@@ -63,7 +63,7 @@ def point_1b(crate, text):
 
 def point_1c(crate, text):
     """1c: functions whose number stands for none: one past the last (78, 30, 24, 96, 16, 255, `many`), or 0 for none."""
-    for match in re.finditer(r"((?:^ *//[^\n]*\n)+)^ *(?:pub )?fn (\w+)[^\n]*", text, re.M):
+    for match in re.finditer(r"((?:^ *//[^\n]*\n)+)(?:^ *#\[[^\]]*\]\n)*^ *(?:pub )?fn (\w+)[^\n]*", text, re.M):
         comment = re.sub(r"\s*//\s*", " ", match.group(1))
         if re.search(r"; (?:\d+|`many`|the number of variants) if (?:there is none|it has none|there is no such)|; else `many`|, or `many`|255 where there is none|16 where there is none|0 if (?:it has none|the bytes end before|there is no such part)|; 0 if there is none", comment):
             yield match.group(2)

@@ -17,23 +17,14 @@ fn noise(number: i32) -> i32 {
 
 // Leaves no 0 in a buffer.
 fn make_noise(numbers: &mut [i32]) {
-    let mut i: usize = 0;
-    while i < numbers.len() {
-        numbers[i] = noise(numbers[i]);
-        i += 1;
+    for number in numbers.iter_mut() {
+        *number = noise(*number);
     }
 }
 
 // Answers whether every number from place `start` on is 0.
 fn zero_from(numbers: &[i32], start: usize) -> bool {
-    let mut i: usize = start;
-    while i < numbers.len() {
-        if numbers[i] != 0 {
-            return false;
-        }
-        i += 1;
-    }
-    true
+    numbers.iter().skip(start).all(|number| *number == 0)
 }
 
 fn print_dirt(rows: &[i32], places: &[i32], last_row: usize, last_place: usize) {
@@ -84,9 +75,10 @@ fn one_file(rows: &mut [i32], places: &mut [i32]) -> bool {
 
 // Nothing says that the input ends, so the files are counted.
 fn answer_all(rows: &mut [i32], places: &mut [i32]) {
-    let mut files: u32 = 0;
-    while files < 65536 && one_file(rows, places) {
-        files += 1;
+    for _ in 0..65536 {
+        if !one_file(rows, places) {
+            return;
+        }
     }
 }
 

@@ -10,8 +10,7 @@ use lib.ListN.{length, get_or, get_or-eq_default}
 use borrow.Author.Tests.{eqb-true, eqb-false, ltb-false, ltb-true}
 use Rattle.laws.proofs.Bools.{and_left, and_right, by_test}
 use Rattle.guard.specs.Closure.{State, class_of}
-use Rattle.guard.specs.Guard.{Guard, Literal, Literal.is}
-use Rattle.guard.specs.Meaning.{values}
+use Rattle.guard.specs.Guard.{Guard, Literal}
 use Rattle.guard.specs.Message.{Message}
 use Rattle.guard.specs.Terms.{table_of}
 use Rattle.guard.specs.Limits.{variant_limit}

@@ -5,14 +5,6 @@
 use reader::Tables;
 use tallies::{Outcome, Tally};
 
-// The difference; 0 where there is none.
-fn minus(x: u32, y: u32) -> u32 {
-    if x < y {
-        return 0;
-    }
-    x - y
-}
-
 fn print_line(name: &[u8], value: u32) {
     io::write_all(1, name);
     io::print_decimal(1, value as u64);
@@ -29,8 +21,8 @@ fn print_counts(name: &[u8], nodes: u32, t: Tally) {
 
 fn print_outcome(budget: u32, o: Outcome) {
     match o {
-        Outcome::Open(t) => print_counts(b"SAT ", minus(budget, t.left), t),
-        Outcome::Closed(t) => print_counts(b"UNSAT ", minus(budget, t.left), t),
+        Outcome::Open(t) => print_counts(b"SAT ", budget.saturating_sub(t.left), t),
+        Outcome::Closed(t) => print_counts(b"UNSAT ", budget.saturating_sub(t.left), t),
         Outcome::Spent(t) => print_counts(b"SPENT ", budget, t),
     }
 }
@@ -70,8 +62,9 @@ fn one_file() -> bool {
 
 // Nothing says that the input ends, so the files are counted.
 fn main() {
-    let mut files: u32 = 0;
-    while files < 65536 && one_file() {
-        files += 1;
+    for _ in 0..65536 {
+        if !one_file() {
+            return;
+        }
     }
 }

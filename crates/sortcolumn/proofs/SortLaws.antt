@@ -64,5 +64,3 @@ module _ (many count : ℕ) (types siblings column : List ℕ) where
 
 -- what loops over columns need
 pub ruleset column_filled = (filled_none, filled_next, filled_end)
-
-pub ruleset sorts_filled = (column_filled, row_sort, default_sort, sorts_end)

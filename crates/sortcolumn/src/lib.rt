@@ -7,7 +7,6 @@ ghost use Rattle.sortcolumn.specs.Sorts.{fieldless_bit, fieldless_entry, fieldle
 ghost use Rattle.columns.specs.Entries.{filled};
 
 // Rows, siblings, defaults; nothing stands past the last default.
-#[tactic(auto, using(crate::proofs::SortLaws::sorts_filled))]
 pub fn sort_entries(many: usize, count: usize, types: &[u8; 24], siblings: &[u8; 48]) -> [u8; 96]
     ensures { result ≡ filled 96 (sort_entry many count types.now siblings.now) 96 }
 {

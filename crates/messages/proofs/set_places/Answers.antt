@@ -29,7 +29,7 @@ bounds-places-i c = omega (arith, c.loop-i-test.true, c.requires.many_bound, c.r
 pub loop-i-preserved : goal.loop-i-preserved
 loop-i-preserved c = let a = c.args in
     let l = c.loop-i in places_next a.classes.now a.at.now a.places.now a.many l.i l.places _ c.loop-i-test.true (omega (arith, c.requires.many_bound, c.requires.many_in_bounds)) l.invariant
-          (to_z_pos w32 {n = c.row_at.result} (omega (arith, c.row_at.ensures, c.requires.at_low (get_or c.args.classes.now c.loop-i.i 0))) ∙ ap pos c.row_at.ensures)
+    (to_z_pos w32 {n = c.row_at.result} (omega (arith, c.row_at.ensures, c.requires.at_low (get_or c.args.classes.now c.loop-i.i 0))) ∙ ap pos c.row_at.ensures)
 
 pub shape_of-places : goal.shape_of-places
 shape_of-places c = c.loop-i.invariant.long
