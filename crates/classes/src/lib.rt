@@ -30,10 +30,9 @@ fn rename(classes: &mut [u8; 96], low: u8, high: u8)
     requires { length classes.old ≡ 96 }
     ensures { classes.new ≡ rename low high classes.old }
 {
+    // Every class is stored, which the compiler does for several at once.
     for class in classes {
-        if *class == high {
-            *class = low;
-        }
+        *class = if *class == high { low } else { *class };
     }
 }
 
