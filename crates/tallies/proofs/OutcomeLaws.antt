@@ -163,6 +163,9 @@ module _ (k : Kind) (w w' : Visits) (t : Tally) (some_left : 0 < t.left) where
 
 -- ---- the total of nodes left and splits made never grows
 
+pub leaf-less : (t u : Tally) → 0 < t.left → u ≡ after_one leaf t → total u ≤ total t
+leaf-less t u h e = let s : total u ≡ total (after_one leaf t) = ap total e in omega arith
+
 pub split-less : (k : Kind) (t u : Tally) → 0 < t.left → u ≡ after_one (split k) t → total u ≤ total t
 split-less k t u h e = let s : total u ≡ total (after_one (split k) t) = ap total e in omega (arith, one k)
   where
