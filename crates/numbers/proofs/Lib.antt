@@ -1,3 +1,4 @@
 pub mod CountLaws
 pub mod Mapped
+pub mod NumberLaws
 pub mod Signed

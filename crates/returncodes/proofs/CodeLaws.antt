@@ -1,12 +1,21 @@
 -- Which question the number for an answer tells. Assumes nothing.
-use Rattle.std.proofs.Common.{◌≡◌, ℕ, zero, suc, ◌<◌, arith}
-use Rattle.std.specs.Prelude.{Result, Ok, Err, IfErr}
+use Rattle.std.proofs.Common.{◌≡◌, ap, ℕ, zero, suc, ◌<◌, arith}
+use Rattle.std.specs.Prelude.{Result, Ok, Err, IfErr, IsErrAnd}
 use lib.IntN.{negsuc}
 use Rattle.guard.specs.Question.{number_of}
 use Rattle.guard.specs.declared.Question.{Question}
 use Rattle.returncodes.specs.Code.{code_of, minus}
 
 -- a question's number is told of that question alone
+pub code-tells : (answer : Result ℕ Question) (k : ℕ) → 0 < k → code_of answer ≡ minus k → IsErrAnd answer (λ q. number_of q ≡ k)
+code-tells (Ok n) (suc k) l e = absurd cc
+code-tells (Err q) (suc k) l e = told (number_of q) e
+  where
+    told : (p : ℕ) → minus p ≡ negsuc k → p ≡ suc k
+    told zero e = absurd cc
+    told (suc p) e = let z : p ≡ k = cc in ap suc z
+code-tells answer zero l e = absurd (omega arith)
+
 pub not-told : (answer : Result ℕ Question) (k : ℕ) → 0 < k → IfErr answer (λ q. ¬ (number_of q ≡ k)) → ¬ (code_of answer ≡ minus k)
 not-told (Ok n) (suc k) l h e = absurd cc
 not-told (Err q) (suc k) l h e = of_minus (number_of q) h e
