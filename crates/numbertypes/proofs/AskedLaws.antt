@@ -11,7 +11,7 @@ use lib.ListN.{length, get_or, drop, take}
 use Rattle.std.specs.List.{count_by}
 use Rattle.std.specs.Prelude.{Ok, Err}
 use Rattle.std.proofs.lemmas.Grind.{common_steps}
-use borrow.Author.Tests.{le-leb, lt-leb, ne_eqb}
+use borrow.Author.Tests.{ne_eqb}
 use Rattle.laws.specs.Lists.{cons_if, filter}
 use Rattle.guard.specs.File.{bytes, count, types}
 use Rattle.guard.specs.Limits.{base}
@@ -113,18 +113,18 @@ module _ (file : List ℕ) (table : TypeTable) (at : ℕ) (f : Found (table_by 6
       go true false p r = let e = sym is ∙ facts_by true false p r in let z : NoInfiniteField ≡ q = cc in asked_by true false _ p r refl ∙ ap (λ (x : Question). refused (number_of x)) z
       go true true p r = let e = sym is ∙ facts_by true true p r in absurd cc
 
-  module _ (ds : List ℕ) (is : type_facts (types_of table) ≡ Ok ds) (n : ℕ) (is_n : n ≡ zeroes table.variants table.many) where
-    -- by the answer to 18
-    asked-last : (c : Bool) → leb (number_types ts) 1 ≡ c → types_asked bytes base file ≡ ask 18 c (drop at file)
-    asked-last c r = go (all_defaults ts) (infinite_fields ts) refl refl
+  -- 18, by its answer
+  module _ (ds : List ℕ) (is : type_facts (types_of table) ≡ Ok ds) (b : Bool) (is_b : b ≡ leb (zeroes table.variants table.many) 1) where
+    asked-last : (c : Bool) → b ≡ c → types_asked bytes base file ≡ ask 18 c (drop at file)
+    asked-last c e = go (all_defaults ts) (infinite_fields ts) refl refl
       where
-        go : (a b : Bool) → all_defaults ts ≡ a → infinite_fields ts ≡ b → types_asked bytes base file ≡ ask 18 c (drop at file)
-        go false b p q = let e = sym is ∙ facts_by false b p q in absurd cc
+        go : (x y : Bool) → all_defaults ts ≡ x → infinite_fields ts ≡ y → types_asked bytes base file ≡ ask 18 c (drop at file)
+        go false y p q = let e = sym is ∙ facts_by false y p q in absurd cc
         go true false p q = let e = sym is ∙ facts_by true false p q in absurd cc
-        go true true p q = asked_by true true c p q r
+        go true true p q = asked_by true true c p q (ap (λ (k : ℕ). leb k 1) (sym number-types) ∙ sym is_b ∙ e)
 
-    pub several : 1 < n → types_asked bytes base file ≡ refused 18
-    several l = asked-last false (lt-leb (number_types ts) 1 (omega (arith, is_n, number-types)))
+    pub several : b ≡ false → types_asked bytes base file ≡ refused 18
+    several = asked-last false
 
-    pub at_most_one : n ≤ 1 → Passed (types_asked bytes base file)
-    at_most_one l = record { rest = _; accepts = asked-last true (le-leb (number_types ts) 1 (omega (arith, is_n, number-types))) }
+    pub at_most_one : b ≡ true → Passed (types_asked bytes base file)
+    at_most_one e = record { rest = _; accepts = asked-last true e }

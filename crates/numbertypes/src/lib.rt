@@ -2,7 +2,7 @@
 // whether at most one type is a number type. `specs/Asked.antt` says what is answered.
 #![tactic(auto)]
 
-ghost use Rattle.std.specs.Prelude.{◌≡◌, ◌≤◌};
+ghost use Rattle.std.specs.Prelude.{◌≡◌, ◌≤◌, leb};
 ghost use Rattle.guard.specs.File.{bytes};
 ghost use Rattle.guard.specs.Limits.{base};
 ghost use Rattle.serialize.specs.NumberList.{types_asked};
@@ -10,13 +10,13 @@ ghost use Rattle.numbertypes.specs.Asked.{Asks, zeroes};
 
 use guard::Question;
 
-// How many of the first types have no variant.
+// Whether at most one of the first types has no variant: such a type is a number type.
 #[tactic(auto, using(crate::proofs::AskedLaws::zeroes_count))]
-fn number_types(many: usize, variants: &[u8; 6]) -> usize
+fn one_number_type(many: usize, variants: &[u8; 6]) -> bool
     requires { many ≤ 6 }
-    ensures { result ≡ zeroes variants.now many }
+    ensures { result ≡ leb (zeroes variants.now many) 1 }
 {
-    variants[..many].iter().filter(|n| **n == 0).count()
+    variants[..many].iter().filter(|n| **n == 0).count() <= 1
 }
 
 // The questions about the types part, 18 the last of them: the first that gets a no.
@@ -27,7 +27,7 @@ pub fn types_question(file: &[u8]) -> Result<(), Question>
     let table = t.value;
     datatypes::type_facts(table)?;
     let variants = table.variants;
-    if 1 < number_types(table.many, &variants) {
+    if !one_number_type(table.many, &variants) {
         return Err(Question::TwoNumberTypes);
     }
     Ok(())

@@ -16,11 +16,11 @@ pub returns-in_err-type_facts : goal.returns-in_err-type_facts
 returns-in_err-type_facts c = let p = err_from_is_err_and c.from_residual-in_err-type_facts.result c.from_residual-in_err-type_facts.ensures.1 in
     rw (p.1, p.2) (facts_stop c.args.file.now c.in_ok-t.t.value c.in_ok-t.t.at c.in_ok-t.ensures c.in_err-type_facts.field-0.0 (sym c.type_facts.ensures ∙ c.in_err-type_facts.was))
 
-pub number_types-requires : goal.number_types-requires
-number_types-requires c = (table-range c.args.file.now c.in_ok-t.t.value c.in_ok-t.t.at c.in_ok-t.ensures).many
+pub one_number_type-requires : goal.one_number_type-requires
+one_number_type-requires c = (table-range c.args.file.now c.in_ok-t.t.value c.in_ok-t.t.at c.in_ok-t.ensures).many
 
-pub returns-then-number_types-gt1 : goal.returns-then-number_types-gt1
-returns-then-number_types-gt1 c = several c.args.file.now c.in_ok-t.t.value c.in_ok-t.t.at c.in_ok-t.ensures c.in_ok-type_facts.field-0 (sym c.type_facts.ensures ∙ c.in_ok-type_facts.was) c.number_types.result c.number_types.ensures c.if-number_types-gt1.true
+pub returns-then-not-one_number_type : goal.returns-then-not-one_number_type
+returns-then-not-one_number_type c = several c.args.file.now c.in_ok-t.t.value c.in_ok-t.t.at c.in_ok-t.ensures c.in_ok-type_facts.field-0 (sym c.type_facts.ensures ∙ c.in_ok-type_facts.was) c.one_number_type.result c.one_number_type.ensures c.if-not-one_number_type.true
 
 pub returns : goal.returns
-returns c = at_most_one c.args.file.now c.in_ok-t.t.value c.in_ok-t.t.at c.in_ok-t.ensures c.in_ok-type_facts.field-0 (sym c.type_facts.ensures ∙ c.in_ok-type_facts.was) c.number_types.result c.number_types.ensures c.if-number_types-gt1.false
+returns c = at_most_one c.args.file.now c.in_ok-t.t.value c.in_ok-t.t.at c.in_ok-t.ensures c.in_ok-type_facts.field-0 (sym c.type_facts.ensures ∙ c.in_ok-type_facts.was) c.one_number_type.result c.one_number_type.ensures c.if-not-one_number_type.false
