@@ -27,22 +27,18 @@ fn print_outcome(budget: u32, o: Outcome) {
     }
 }
 
-fn print_refused(question: u32) {
-    print_line(b"REFUSED ", question);
-}
-
 // Prints the answer to a file.
 fn answer(file: &[u8], budget: u32) {
-    let t = reader::read(file, 6, 24, 32);
-    if t.refused != 0 {
-        print_refused(t.refused);
-        return;
+    match reader::read(file, 6, 24, 32) {
+        Ok(t) => {
+            let problem = problem::problem_of(t);
+            let mut classes = [0u8; 96];
+            let mut labels = [0u16; 96];
+            let o = rootsearch::search_guard(t, problem, budget, &mut classes, &mut labels);
+            print_outcome(budget, o);
+        }
+        Err(q) => print_line(b"REFUSED ", q.number()),
     }
-    let problem = problem::problem_of(t);
-    let mut classes = [0u8; 96];
-    let mut labels = [0u16; 96];
-    let o = rootsearch::search_guard(t, problem, budget, &mut classes, &mut labels);
-    print_outcome(budget, o);
 }
 
 // Answers whether there was a file.
