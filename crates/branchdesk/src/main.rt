@@ -2,15 +2,19 @@
 // each, and writes the lists (document 02, #113).
 #![tactic(auto)]
 
-ghost use Rattle.std.specs.Prelude.{◌≡◌, ◌≤◌, length};
+ghost use Rattle.std.specs.Prelude.{◌≡◌, ◌≤◌, length, IfOk};
+
+use branchtext::branch_text;
+use branchverdicts::judge_branches;
+use guard::Question;
 
 // Writes the text to standard output, by way of a buffer.
-fn print(refused: u32, many: u32, codes: &[u8], text: &mut [u8])
-    requires many_bound { many ≤ 8 }
+fn print(answer: Result<usize, Question>, codes: &[u8], text: &mut [u8])
+    requires many_bound { IfOk answer (λ n. n ≤ 8) }
     requires in_bounds { 36 ≤ length codes.now }
     requires in_bounds_2 { 4608 ≤ length text.old }
 {
-    let n = branchtext::branch_text(refused, many, codes, text);
+    let n = branch_text(answer, codes, text);
     io::write_all(1, &text[..n]);
 }
 
@@ -22,9 +26,9 @@ fn text_buffer() -> [u8; 4608]
 
 fn answer(file: &[u8]) {
     let mut codes = [0u8; 36];
-    let j = branchverdicts::judge_branches(file, 1000000, &mut codes);
+    let judged = judge_branches(file, 1000000, &mut codes);
     let mut text = text_buffer();
-    print(j.refused, j.branches as u32, &codes, &mut text);
+    print(judged, &codes, &mut text);
 }
 
 fn main() {

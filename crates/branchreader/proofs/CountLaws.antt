@@ -1,20 +1,11 @@
 -- The number of branches: one limit, and then whether there is a branch at all. Assumes nothing.
-use mathlib.Core.Path.{◌≡◌, refl, ap, sym, ◌∙◌}
-use mathlib.Core.Bool.{Bool, true, false, ◌&&◌}
-use mathlib.Core.List.{List}
-use Prim.Native.Nat.{ℕ, ◌≤◌}
-use native.Mathlib.Omega.{arith}
+use Rattle.std.proofs.Common.{◌≡◌, ◌∙◌, refl, ap, sym, arith, ℕ, ◌≤◌, List, Bool, true, false}
+use mathlib.Core.Bool.{◌&&◌}
 use lib.Dec.{leb, leb-suc-suc, ltb}
-use lib.ListN.{drop}
-use borrow.Author.Tests.{le-leb, leb-true}
-use Rattle.laws.proofs.Bools.{and_left, and_right}
 use Rattle.guard.specs.Number.{Parsed, Parsed.accepted, Parsed.refused, ◌>>◌, and_then, ask, return, unsigned}
-use Rattle.numbers.specs.Reader.{Says, as_number, below, below_at, refusal}
-use Rattle.numbers.specs.declared.Number.{Number}
-use Rattle.numbers.proofs.Answers.{ask-yes, below-says, goes_on, stops, tidy_good, tidy_says}
-use Rattle.numbers.proofs.Tidy.{Tidy, tidy_asked, tidy_bind, tidy_return, tidy_unsigned}
+use Rattle.numbers.specs.Reader.{below}
+use Rattle.numbers.proofs.CountLaws.{below_is}
 use Rattle.branches.specs.Procedure.{branch_count, branch_limit}
-use Rattle.branchreader.specs.BranchReader.{count_at}
 
 -- what is asked of a number that is at most the limit
 abbrev some : ℕ → List ℕ → Parsed ℕ
@@ -39,46 +30,18 @@ by_limit bs = go (unsigned bs)
         both (leb 1 v) (leb v branch_limit) v rest ∙ value (leb v branch_limit) v rest
         ∙ ap (λ (b : Bool). and_then some ((ask 19 b >> return v) rest)) (sym (leb-suc-suc v branch_limit))
 
-module _ (bytes : List ℕ) (at : ℕ) (n : Number) (is : n ≡ below_at bytes at 9 19) where
-  says : Says bytes (below 9 19 (drop at bytes)) n.refused n.at n.value
-  says = below-says bytes at 9 19 (omega arith) n is
+module _ (bs : List ℕ) where
+  pub limit_refuses : (q : ℕ) → below 9 19 bs ≡ refused q → branch_count bs ≡ refused q
+  limit_refuses q e = by_limit bs ∙ ap (and_then some) e
 
-  count_by_lem : (r : Parsed ℕ) → and_then some (below 9 19 (drop at bytes)) ≡ r → as_number bytes r ≡ count_at bytes at
-  unfolding count_at
-  count_by_lem r e = sym (ap (as_number bytes) (by_limit (drop at bytes) ∙ e))
+  -- what is accepted is within the limit
+  pub count_few : (n : ℕ) (rest : List ℕ) → branch_count bs ≡ accepted n rest → n ≤ branch_limit
+  count_few n rest e = go (below 9 19 bs) refl (sym (by_limit bs) ∙ e)
+    where
+      asked : (m : ℕ) (mid : List ℕ) (b : Bool) → (ask 19 b >> return m) mid ≡ accepted n rest → m ≡ n
+      asked m mid true d = cc
+      asked m mid false d = absurd cc
 
-  pub count-refused : ¬ (n.refused ≡ 0) → n ≡ count_at bytes at
-  unfolding below_at
-  count-refused h =
-      is ∙ ap (as_number bytes) (says.refuses h) ∙ count_by_lem (refused n.refused) (stops some bytes (below 9 19 (drop at bytes)) n.refused n.at n.value says h)
-
-  module _ (read : n.refused ≡ 0) where
-    then_some : and_then some (below 9 19 (drop at bytes)) ≡ some n.value (drop n.at bytes)
-    then_some = goes_on some bytes (below 9 19 (drop at bytes)) n.refused n.at n.value says read
-
-    pub none-there : n.value ≡ 0 → refusal 19 ≡ count_at bytes at
-    none-there z = count_by_lem (refused 19) (then_some ∙ ap (λ (v : ℕ). some v (drop n.at bytes)) z)
-
-    pub count-read : ¬ (n.value ≡ 0) → n ≡ count_at bytes at
-    unfolding below_at
-    count-read h =
-        is ∙ ap (as_number bytes) (says.accepts read)
-        ∙ count_by_lem (accepted n.value (drop n.at bytes))
-        (then_some ∙ ask-yes (return n.value) (drop n.at bytes) 19 (leb 1 n.value) (le-leb 1 n.value (omega arith)))
-
--- ---- for callers
-
-pub tidy_branch_count : Tidy branch_count (λ b. (1 ≤ b) × (b ≤ branch_limit))
-tidy_branch_count =
-    tidy_bind unsigned _ (λ n. n ≤ 4294967295) (λ b. (1 ≤ b) × (b ≤ branch_limit)) tidy_unsigned
-    (λ n h. tidy_asked 19 (leb 1 n && leb n branch_limit) (return n) (λ b. (1 ≤ b) × (b ≤ branch_limit)) (omega arith)
-    (λ e. tidy_return n (λ b. (1 ≤ b) × (b ≤ branch_limit)) (leb-true 1 n (and_left (leb 1 n) (leb n branch_limit) e), leb-true n branch_limit (and_right (leb 1 n) (leb n branch_limit) e))))
-
-module _ (bytes : List ℕ) (at : ℕ) (n : Number) (is : n ≡ count_at bytes at) where
-  pub count-says : Says bytes (branch_count (drop at bytes)) n.refused n.at n.value
-  unfolding count_at
-  count-says = tidy_says branch_count _ tidy_branch_count bytes at n is
-
-  pub count-few : n.refused ≡ 0 → n.value ≤ branch_limit
-  unfolding count_at
-  count-few z = (tidy_good branch_count _ tidy_branch_count bytes at n is z).1
+      go : (p : Parsed ℕ) → below 9 19 bs ≡ p → and_then some p ≡ accepted n rest → n ≤ branch_limit
+      go (refused q) f d = absurd cc
+      go (accepted m mid) f d = omega (arith, below_is 9 19 bs m mid f, asked m mid (leb 1 m) d)

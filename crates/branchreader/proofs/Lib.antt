@@ -1,6 +1,6 @@
 pub mod CountLaws
-pub mod LinesAnswer
 pub mod SameLines
 pub mod BranchLaws
 pub mod FileParts
 pub mod ReaderLaws
+pub mod TablesRead

@@ -1,22 +1,13 @@
 -- What reading the file of a procedure gives, in terms of its parser. Assumes nothing: definitions.
-use Rattle.std.specs.Prelude.{List, [], map, ℕ, length, drop}
+use Rattle.std.specs.Prelude.{List, [], map, length}
 use Rattle.guard.specs.Grammar.{ended}
 use Rattle.guard.specs.Guard.{Literal}
-use Rattle.guard.specs.Limits.{base}
-use Rattle.guard.specs.Number.{Parsed, Parsed.accepted, Parsed.refused, Parser, ◌>>=◌, ◌>>◌, return, times}
+use Rattle.guard.specs.Number.{Parser, ◌>>=◌, ◌>>◌, return, times}
 use Rattle.tables.specs.Layout.{literal_table, pad_to, row_table, type_table}
 use Rattle.tables.specs.declared.LiteralTable.{LiteralTable}
-use Rattle.numbers.specs.Reader.{as_number}
-use Rattle.numbers.specs.declared.Number.{Number}
-use Rattle.literalkinds.specs.OneLiteral.{literal_by}
-use Rattle.literalreader.specs.LiteralReader.{lines_by}
-use Rattle.branches.specs.Procedure.{Procedure, branch_count, branch_limit, procedure}
-use Rattle.branchreader.specs.declared.BranchesRead.{BranchesRead}
-use Rattle.branchreader.specs.declared.ProcedureRead.{ProcedureRead}
-
--- B at a cursor
-unfoldable pub count_at : List ℕ → ℕ → Number
-count_at bytes at = as_number bytes (branch_count (drop at bytes))
+use Rattle.branches.specs.Procedure.{Procedure, branch_count, branch_limit}
+use Rattle.branchreader.specs.declared.Branches.{Branches}
+use Rattle.branchreader.specs.declared.Procedure as tables
 
 -- ---- B and the branches, to the end of the file
 
@@ -31,29 +22,20 @@ branches_by p = do
 abbrev pub branch_tables : List (List Literal) → List LiteralTable
 branch_tables bs = pad_to (literal_table []) branch_limit (map literal_table bs)
 
-unfoldable pub no_branches : ℕ → BranchesRead
-no_branches q = record { refused = q; many = 0; lines = branch_tables [] }
+unfoldable pub as_branches : List (List Literal) → Branches
+as_branches bs = record { many = length bs; lines = branch_tables bs }
 
-unfoldable pub as_branches : Parsed (List (List Literal)) → BranchesRead
-as_branches (refused q) = no_branches q
-as_branches (accepted bs rest) = record { refused = 0; many = length bs; lines = branch_tables bs }
-
-unfoldable pub branches_at : List ℕ → ℕ → List ℕ → ℕ → List ℕ → BranchesRead
-branches_at bytes at counts rows us = as_branches (branches_by (lines_by base.lines (literal_by counts rows us)) (drop at bytes))
+-- the branches in their tables
+abbrev pub in_branches : Parser (List (List Literal)) → Parser Branches
+in_branches p = p >>= λ bs. return (as_branches bs)
 
 -- ---- the whole file
 
-unfoldable pub no_procedure : ℕ → ProcedureRead
-no_procedure q = record { refused = q; types = type_table []; rows = row_table [] []; many = 0; lines = branch_tables [] }
-
 -- the tables of a procedure
-unfoldable pub procedure_tables : Procedure → ProcedureRead
+unfoldable pub procedure_tables : Procedure → tables.Procedure
 procedure_tables p =
-    record { refused = 0; types = type_table p.types; rows = row_table p.types p.rows; many = length p.branches; lines = branch_tables p.branches }
+    record { types = type_table p.types; rows = row_table p.types p.rows; many = length p.branches; lines = branch_tables p.branches }
 
-abbrev pub as_tables : Parsed Procedure → ProcedureRead
-as_tables (refused q) = no_procedure q
-as_tables (accepted p rest) = procedure_tables p
-
-unfoldable pub tables_at : List ℕ → ProcedureRead
-tables_at bytes = as_tables (procedure base bytes)
+-- the procedure in its tables
+abbrev pub in_tables : Parser Procedure → Parser tables.Procedure
+in_tables p = p >>= λ x. return (procedure_tables x)

@@ -1,6 +1,8 @@
 -- What `branchdesk` prints, byte by byte. Assumes nothing: definitions. Quoted sentences are document 02's, of request #113.
-use Rattle.std.specs.Prelude.{cond, List, ◌++◌, map, ℕ, suc, eqb, drop}
+use Rattle.std.specs.Prelude.{List, ◌++◌, map, ℕ, suc, drop, Result, Ok, Err}
 use Rattle.laws.specs.Lists.{concat_map, from}
+use Rattle.guard.specs.Question.{number_of}
+use Rattle.guard.specs.declared.Question.{Question}
 use Rattle.writing.specs.Words.{ascii, decimal}
 use Rattle.branches.specs.Verdicts.{Lists, Pair, having_code, lists_of, pairs_from}
 
@@ -19,8 +21,9 @@ lists_text l =
     ++ concat_map (pair_line (ascii "spent ")) l.spent_pairs
 
 -- "or REFUSED and its number"
-unfoldable pub branch_text : ℕ → ℕ → List ℕ → List ℕ
-branch_text refused many codes = cond (eqb refused 0) (lists_text (lists_of many codes)) (line (ascii "REFUSED ") refused)
+abbrev pub branch_text : Result ℕ Question → List ℕ → List ℕ
+branch_text (Ok many) codes = lists_text (lists_of many codes)
+branch_text (Err q) codes = line (ascii "REFUSED ") (number_of q)
 
 -- ---- the lines of a list, from codes that stand from a place on
 

@@ -2,11 +2,13 @@
 // `specs/BranchText.antt` says what the text is.
 #![tactic(auto)]
 
-ghost use Rattle.std.specs.Prelude.{◌+◌, ◌*◌, ◌≤◌, length};
+ghost use Rattle.std.specs.Prelude.{◌+◌, ◌*◌, ◌≤◌, length, IfOk};
 ghost use Rattle.laws.specs.Lists.{when};
 ghost use Rattle.branches.specs.Verdicts.{lists_of};
 ghost use Rattle.writing.specs.Written.{Written};
 ghost use Rattle.branchtext.specs.BranchText.{branch_text, line, lines, lines_of_pairs, lists_text, pairs_of};
+
+use guard::Question;
 
 // A number after its words, and the end of the line.
 fn put_line(out: &mut [u8], at: usize, name: &[u8], n: u32) -> usize
@@ -109,15 +111,15 @@ fn put_lists(out: &mut [u8], codes: &[u8], many: u32) -> usize
     put_pairs(out, c, b"spent ", codes, many, 3)
 }
 
-// The text for a call that was refused, or for so many branches and their codes; its length.
-pub fn branch_text(refused: u32, many: u32, codes: &[u8], out: &mut [u8]) -> usize
-    requires many_bound { many ≤ 8 }
+// The text for what a call answered, which is how many branches there are, and for their codes; its length.
+pub fn branch_text(answer: Result<usize, Question>, codes: &[u8], out: &mut [u8]) -> usize
+    requires many_bound { IfOk answer (λ n. n ≤ 8) }
     requires in_bounds { 36 ≤ length codes.now }
     requires in_bounds_2 { 4608 ≤ length out.old }
-    ensures { Written 4608 out.old 0 (branch_text refused many codes.now) out.new result }
+    ensures { Written 4608 out.old 0 (branch_text answer codes.now) out.new result }
 {
-    if refused != 0 {
-        return put_line(out, 0, b"REFUSED ", refused);
+    match answer {
+        Ok(many) => put_lists(out, codes, many as u32),
+        Err(q) => put_line(out, 0, b"REFUSED ", q.number()),
     }
-    put_lists(out, codes, many)
 }

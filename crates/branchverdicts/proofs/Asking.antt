@@ -14,7 +14,7 @@ use Rattle.tables.specs.declared.LiteralTable.{LiteralTable}
 use Rattle.tables.proofs.Columns.{pad-at}
 use Rattle.branches.specs.Procedure.{Procedure, branch_limit, guard_with}
 use Rattle.branchreader.specs.BranchReader.{branch_tables, procedure_tables}
-use Rattle.branchreader.specs.declared.ProcedureRead.{ProcedureRead}
+use Rattle.branchreader.specs.declared.Procedure as tables
 use Rattle.verdicts.specs.VerdictOn.{Askable, AskedOf}
 use Rattle.branchverdicts.specs.Judging.{Holds, HoldsLines}
 
@@ -24,27 +24,27 @@ mapped_at f [] j a d h = absurd (omega arith)
 mapped_at f (x ∷ xs) zero a d h = refl
 mapped_at f (x ∷ xs) (suc j) a d h = mapped_at f xs j a d (omega arith)
 
-module _ (t : ProcedureRead) (p : Procedure) (h : Holds t p) where
+module _ (t : tables.Procedure) (p : Procedure) (h : Holds t p) where
   -- ---- the tables, one by one
 
   pub types-held : t.types ≡ type_table p.types
   unfolding procedure_tables
-  types-held = ap (λ (x : ProcedureRead). x.types) h.tables
+  types-held = ap (λ (x : tables.Procedure). x.types) h.tables
 
   pub rows-held : t.rows ≡ row_table p.types p.rows
   unfolding procedure_tables
-  rows-held = ap (λ (x : ProcedureRead). x.rows) h.tables
+  rows-held = ap (λ (x : tables.Procedure). x.rows) h.tables
 
   pub count_held : t.many ≡ length p.branches
   unfolding procedure_tables
-  count_held = ap (λ (x : ProcedureRead). x.many) h.tables
+  count_held = ap (λ (x : tables.Procedure). x.many) h.tables
 
   pub few : t.many ≤ 8
   few = omega (arith, count_held, h.fits.few)
 
   lines-held : t.lines ≡ branch_tables p.branches
   unfolding procedure_tables
-  lines-held = ap (λ (x : ProcedureRead). x.lines) h.tables
+  lines-held = ap (λ (x : tables.Procedure). x.lines) h.tables
 
   -- the lines of a branch
   abbrev pub lines_at : ℕ → List Literal

@@ -9,12 +9,14 @@ use native.Mathlib.Omega.{arith}
 use lib.Dec.{ltb}
 use lib.ListN.{length, get_or, length-map, get_or-append}
 use Rattle.laws.proofs.Lists.{all_get_d}
+use Rattle.std.specs.Prelude.{Result, Ok, Err, IfOk}
 use Rattle.guard.specs.Guard.{Guard}
 use Rattle.guard.specs.Limits.{Supported, base}
 use Rattle.guard.specs.Meaning.{Satisfiable}
 use Rattle.guard.specs.Number.{Parsed, Parsed.accepted, Parsed.refused}
 use Rattle.guard.specs.Search.{node_count}
 use Rattle.guard.specs.WellFormed.{WellFormed}
+use Rattle.guard.specs.declared.Question.{Question}
 use Rattle.guard.proofs.Accepted.{head_guard, with_literals, with_lines}
 use Rattle.tables.specs.Layout.{pad}
 use Rattle.tables.proofs.Columns.{pad_get, pad-past}
@@ -23,8 +25,9 @@ use Rattle.verdictcodes.proofs.Meaning.{sat-code, some-code, spent-code, unsat-c
 use Rattle.branches.specs.Procedure.{Procedure, guard_with, procedure}
 use Rattle.branches.specs.Verdicts.{asked, asks_of, buffer_length, codes, left_in, pairs}
 use Rattle.branches.proofs.Fits.{ProcedureFits, accepted-fits, asked-fit}
-use Rattle.branchverdicts.specs.Judging.{answer_to}
-use Rattle.branchverdicts.specs.declared.Judged.{Judged}
+use Rattle.numbers.specs.Reader.{ReadsAll}
+use Rattle.numbers.proofs.Mapped.{mapped}
+use Rattle.branchverdicts.specs.Judging.{count_in}
 use Rattle.branchverdicts.proofs.Asking.{mapped_at}
 
 -- the file of a call that is taken
@@ -43,12 +46,11 @@ fits_of : (bytes : List ℕ) (long : ℕ) (p : Procedure) (rest : List ℕ) → 
 fits_of bytes long p rest e = accepted-fits base (record { types = omega arith; terms = omega arith; lines = omega arith }) bytes p rest (file_of_lem bytes long p rest e)
 
 -- at most eight branches are told
-pub few-told : (bytes : List ℕ) (long : ℕ) (r : Judged) → r ≡ answer_to (asks_of bytes long) → r.branches ≤ 8
-few-told bytes long r is = go (asks_of bytes long) refl
-  where
-    go : (a : Parsed Procedure) → asks_of bytes long ≡ a → r.branches ≤ 8
-    go (refused q) e = omega (arith, ap (λ (x : Judged). x.branches) (is ∙ ap answer_to e))
-    go (accepted p rest) e = omega (arith, ap (λ (x : Judged). x.branches) (is ∙ ap answer_to e), (fits_of bytes long p rest e).few)
+pub few-told : (bytes : List ℕ) (long : ℕ) (r : Result ℕ Question) → ReadsAll (count_in (asks_of bytes long)) r → IfOk r (λ n. n ≤ 8)
+few-told bytes long (Err q) e = tt
+few-told bytes long (Ok n) e =
+    let (p, taken, is) = mapped (λ (x : Procedure). length x.branches) (asks_of bytes long) n [] e in
+    omega (arith, is, (fits_of bytes long p [] taken).few)
 
 -- a file that is taken, and what the call left in the buffer
 module _ (bytes : List ℕ) (budget long : ℕ) (out : List ℕ) (left : out ≡ left_in budget long (asks_of bytes long)) (p : Procedure) (rest : List ℕ) (taken : asks_of bytes long ≡ accepted p rest) where

@@ -12,7 +12,7 @@ use Rattle.writing.proofs.Writing.{and_then, same_text}
 use Rattle.verdictcodes.specs.Codes.{code_for}
 use Rattle.branches.specs.Procedure.{Procedure, guard_with}
 use Rattle.branches.specs.Verdicts.{codes, pairs}
-use Rattle.branchreader.specs.declared.ProcedureRead.{ProcedureRead}
+use Rattle.branchreader.specs.declared.Procedure as tables
 use Rattle.branchverdicts.specs.Judging.{Fills, Holds, HoldsLines, PutsPairs, PutsWith, Taken, codes_of}
 use Rattle.branchverdicts.proofs.Asking.{few}
 
@@ -32,7 +32,7 @@ padded out text out' end zeros w =
     sym (take-append-drop end out') ∙ ap (λ (l : List ℕ). l ++ drop end out') w.front ∙ ap (λ (l : List ℕ). text ++ l) (w.rest ∙ ap (drop end) zeros ∙ drop_zeros end (length out))
     ∙ ap (λ (k : ℕ). text ++ replicate (length out - k) 0) e
 
-module _ (t : ProcedureRead) (budget : ℕ) (empty : LiteralTable) (is_empty : empty ≡ literal_table []) {out out' : List ℕ} {at : ℕ} (w : PutsWith t empty 0 budget out 0 at out') where
+module _ (t : tables.Procedure) (budget : ℕ) (empty : LiteralTable) (is_empty : empty ≡ literal_table []) {out out' : List ℕ} {at : ℕ} (w : PutsWith t empty 0 budget out 0 at out') where
   alone : (p : Procedure) → Holds t p → Written (t.many - 0) out 0 (codes_of budget p p.branches) out' at
   alone p h = same_text (ap (codes_of budget p) (map-id p.branches)) (w.puts p [] h (none-held p empty is_empty))
 

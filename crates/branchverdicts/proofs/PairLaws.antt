@@ -14,7 +14,7 @@ use Rattle.verdictcodes.specs.Codes.{code_for}
 use Rattle.branches.specs.Procedure.{Procedure, guard_with}
 use Rattle.branches.specs.Verdicts.{pairs}
 use Rattle.branches.proofs.PairCount.{few-pairs}
-use Rattle.branchreader.specs.declared.ProcedureRead.{ProcedureRead}
+use Rattle.branchreader.specs.declared.Procedure as tables
 use Rattle.branchverdicts.specs.Judging.{Holds, HoldsLines, PutsPairs, PutsWith, Taken, codes_of}
 use Rattle.branchverdicts.proofs.Asking.{count_held}
 use Rattle.branchverdicts.proofs.Putting.{codes_from}
@@ -36,11 +36,11 @@ pairs_next budget p i h =
     ∙ map-append (λ ls. code_for budget (guard_with p ls)) (map (λ ms. get_or p.branches i [] ++ ms) (drop (suc i) p.branches)) (pairs (drop (suc i) p.branches))
 
 -- the loop, before branch i
-pub record PutPairs (t : ProcedureRead) (budget : ℕ) (out : List ℕ) (at : ℕ) (out' : List ℕ) (end i : ℕ) : Type 0 where
+pub record PutPairs (t : tables.Procedure) (budget : ℕ) (out : List ℕ) (at : ℕ) (out' : List ℕ) (end i : ℕ) : Type 0 where
   pub long : length out' ≡ length out
   pub puts : (p : Procedure) → Holds t p → Partly 28 (pair_codes budget p 0) (pair_codes budget p i) out at out' end
 
-module _ (t : ProcedureRead) (budget : ℕ) (out : List ℕ) (at : ℕ) where
+module _ (t : tables.Procedure) (budget : ℕ) (out : List ℕ) (at : ℕ) where
   pub pairs-none : at ≤ length out → PutPairs t budget out at out at 0
   pairs-none room = record { long = refl; puts = λ p h. partly_room 28 (omega arith) (partly_none (pair_codes budget p 0) room) }
 

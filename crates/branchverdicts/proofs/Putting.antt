@@ -14,7 +14,7 @@ use Rattle.writing.proofs.Partly.{Partly, one_byte, partly_all, partly_next, par
 use Rattle.writing.proofs.Writing.{more_room}
 use Rattle.verdictcodes.specs.Codes.{code_for}
 use Rattle.branches.specs.Procedure.{Procedure, guard_with}
-use Rattle.branchreader.specs.declared.ProcedureRead.{ProcedureRead}
+use Rattle.branchreader.specs.declared.Procedure as tables
 use Rattle.verdicts.specs.VerdictOn.{VerdictOn}
 use Rattle.branchverdicts.specs.Judging.{Holds, HoldsLines, PutsWith, codes_of}
 use Rattle.branchverdicts.proofs.Asking.{asked, count_held}
@@ -24,13 +24,13 @@ abbrev pub codes_from : ℕ → Procedure → List Literal → ℕ → List ℕ
 codes_from budget p ls j = codes_of budget p (map (λ ms. ls ++ ms) (drop j p.branches))
 
 -- the loop, before branch j
-pub record Put (t : ProcedureRead) (first : LiteralTable) (from budget : ℕ) (out : List ℕ) (at : ℕ) (out' : List ℕ) (end j : ℕ) : Type 0 where
+pub record Put (t : tables.Procedure) (first : LiteralTable) (from budget : ℕ) (out : List ℕ) (at : ℕ) (out' : List ℕ) (end j : ℕ) : Type 0 where
   pub since : from ≤ j
   pub place : end ≡ at + (j - from)
   pub long : length out' ≡ length out
   pub puts : (p : Procedure) (ls : List Literal) → Holds t p → HoldsLines p first ls → Partly (j - from) (codes_from budget p ls from) (codes_from budget p ls j) out at out' end
 
-module _ (t : ProcedureRead) (first : LiteralTable) (from budget : ℕ) (out : List ℕ) (at : ℕ) where
+module _ (t : tables.Procedure) (first : LiteralTable) (from budget : ℕ) (out : List ℕ) (at : ℕ) where
   pub put_none : at ≤ length out → Put t first from budget out at out at from
   put_none room =
       record {

@@ -4,21 +4,16 @@
 
 ghost use Rattle.std.specs.Prelude.{◌≡◌, ◌+◌, ◌-◌, ◌≤◌, length, replicate};
 ghost use Rattle.branches.specs.Verdicts.{asks_of, left_in};
-ghost use Rattle.branchverdicts.specs.Judging.{Fills, PutsPairs, PutsWith, Taken, TakenWith, answer_to};
+ghost use Rattle.numbers.specs.Reader.{ReadsAll};
+ghost use Rattle.branchverdicts.specs.Judging.{Fills, PutsPairs, PutsWith, Taken, TakenWith, count_in};
 
-use branchreader::ProcedureRead;
+use branchreader::{Procedure, no_lines, read_procedure};
+use guard::Question;
 use tables::LiteralTable;
-
-// How many branches there are; or the question that refused the call.
-#[derive(Clone, Copy)]
-pub struct Judged {
-    pub refused: u32,
-    pub branches: usize,
-}
 
 // For each branch from one on, the number for these lines with those of the branch behind them; the place after the last number.
 fn put_with(
-    t: ProcedureRead,
+    t: Procedure,
     first: LiteralTable,
     from: usize,
     budget: u32,
@@ -43,7 +38,7 @@ fn put_with(
 }
 
 // For each pair, by lower branch, then higher, the number for the lines of both; the place after the last.
-fn put_pairs(t: ProcedureRead, budget: u32, out: &mut [u8], at: usize) -> usize
+fn put_pairs(t: Procedure, budget: u32, out: &mut [u8], at: usize) -> usize
     requires taken { Taken t }
     requires at_in_bounds { at + 28 ≤ length out.old }
     ensures { PutsPairs t budget out.old at result out.new }
@@ -58,43 +53,28 @@ fn put_pairs(t: ProcedureRead, budget: u32, out: &mut [u8], at: usize) -> usize
 }
 
 // All numbers of a procedure, in a buffer of zeros.
-fn fill(t: ProcedureRead, budget: u32, out: &mut [u8])
+fn fill(t: Procedure, budget: u32, out: &mut [u8])
     requires taken { Taken t }
     requires in_bounds { 36 ≤ length out.old }
     requires out_value { out.old ≡ replicate (length out.old) 0 }
     ensures { Fills t budget out.old out.new }
 {
-    let none = branchreader::no_lines();
+    let none = no_lines();
     let next = put_with(t, none, 0, budget, out, 0);
     put_pairs(t, budget, out, next);
 }
 
-// A call that is refused.
-fn refused(question: u32) -> Judged
-    ensures { result ≡ record { refused = question; branches = 0 } }
-{
-    Judged {
-        refused: question,
-        branches: 0,
-    }
-}
-
-// The numbers of the branches and of their pairs in front of the buffer, zeros behind them; nothing but zeros after a refusal.
-pub fn judge_branches(file: &[u8], budget: u32, out: &mut [u8]) -> Judged
-    ensures value { result ≡ answer_to (asks_of file.now (length out.old)) }
+// The numbers of the branches and of their pairs in front of the buffer, zeros behind them; nothing but zeros after a refusal. Answers how many
+// branches there are.
+pub fn judge_branches(file: &[u8], budget: u32, out: &mut [u8]) -> Result<usize, Question>
+    ensures value { ReadsAll (count_in (asks_of file.now (length out.old))) result }
     ensures out_after { out.new ≡ left_in budget (length out.old) (asks_of file.now (length out.old)) }
 {
     bytebuffer::clear(out);
     if out.len() < 36 {
-        return refused(1);
+        return Err(Question::ShortBuffer);
     }
-    let t = branchreader::read_procedure(file);
-    if t.refused != 0 {
-        return refused(t.refused);
-    }
+    let t = read_procedure(file)?;
     fill(t, budget, out);
-    Judged {
-        refused: 0,
-        branches: t.many,
-    }
+    Ok(t.many)
 }

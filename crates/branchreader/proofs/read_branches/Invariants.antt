@@ -1,11 +1,9 @@
 -- `read_branches` meets its contract. Invariant: the branches read stand in the tables, and those left come after them. Assumes nothing.
-use Prim.Native.Nat.{◌-◌}
-use Rattle.branchreader.proofs.BranchLaws.{Read}
-use Rattle.branchreader.proofs.LinesAnswer.{one}
+use Rattle.guard.specs.Limits.{base}
+use Rattle.literalkinds.specs.OneLiteral.{literal_by}
+use Rattle.literalreader.specs.LiteralReader.{lines_by}
+use Rattle.branchreader.proofs.BranchLaws.{SoFar}
 use Rattle.branchreader.proofs.read_branches.Given as goal
 
 abbrev pub invariant-loop-i : goal.invariant-loop-i
-invariant-loop-i l = Read (one l.counts l.rows l.types) l.bytes l.many l.initial.cursor l.lines l.cursor l.i
-
-abbrev pub decreases-loop-i : goal.decreases-loop-i
-decreases-loop-i l = l.many - l.i
+invariant-loop-i l = SoFar (lines_by base.lines (literal_by l.counts l.rows l.types)) l.bytes l.many l.initial.cursor l.lines l.cursor l.i

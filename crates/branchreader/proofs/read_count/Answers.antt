@@ -1,16 +1,11 @@
 -- `read_count` meets its contract: a number of at most 8, and not 0. Assumes nothing.
-use native.Mathlib.Omega.{arith}
-use Rattle.branchreader.proofs.CountLaws.{count-read, count-refused, none-there}
+use Rattle.std.proofs.Common.{drop}
+use Rattle.std.proofs.lemmas.Result.{err_from_is_err_and}
+use Rattle.guard.specs.Question.{number_of}
+use Rattle.branchreader.proofs.CountLaws.{limit_refuses}
 use Rattle.branchreader.proofs.read_count.Goals as goal
 
-pub returns-then-n-ne0 : goal.returns-then-n-ne0
-returns-then-n-ne0 c = let s = c.args in
-    count-refused s.bytes.now s.at c.read_below-n.result c.read_below-n.ensures (omega arith)
-
-pub returns-then-n-eq0 : goal.returns-then-n-eq0
-returns-then-n-eq0 c = let s = c.args in
-    none-there s.bytes.now s.at c.read_below-n.result c.read_below-n.ensures (omega (arith, c.if-n-ne0.false)) (omega arith)
-
-pub returns : goal.returns
-returns c = let s = c.args in
-    count-read s.bytes.now s.at c.read_below-n.result c.read_below-n.ensures (omega (arith, c.if-n-ne0.false)) (omega arith)
+pub returns-in_err-n : goal.returns-in_err-n
+returns-in_err-n c = let a = c.args in
+    let p = err_from_is_err_and c.from_residual.result c.from_residual.ensures.1 in
+    rw (p.1, p.2) (limit_refuses (drop a.at a.bytes.now) (number_of c.in_err-n.field-0.0) c.in_err-n.ensures)

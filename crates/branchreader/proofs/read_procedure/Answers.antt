@@ -1,30 +1,28 @@
 -- `read_procedure` meets its contract: the head, and then the branches. Assumes nothing.
-use mathlib.Core.Path.{◌≡◌, ◌∙◌}
-use native.Mathlib.Omega.{arith}
+use Rattle.std.proofs.lemmas.Result.{err_from_is_err_and}
+use Rattle.guard.specs.Question.{number_of}
 use Rattle.branchreader.proofs.ReaderLaws.{all_read, branches_stop, few-rows, few-variants, head_stop, types-there}
 use Rattle.branchreader.proofs.read_procedure.Goals as goal
 
-pub returns-then-h-ne0 : goal.returns-then-h-ne0
-returns-then-h-ne0 c = let s = c.args in
-    c.no_procedure.ensures ∙ head_stop s.bytes.now c.read_head-h.result c.read_head-h.ensures (omega arith)
+pub returns-in_err-h : goal.returns-in_err-h
+returns-in_err-h c =
+    let p = err_from_is_err_and c.from_residual.result c.from_residual.ensures.1 in
+    rw (p.1, p.2) (head_stop c.args.bytes.now (number_of c.in_err-h.field-0.0) c.in_err-h.ensures)
 
-pub read_branches-b-requires : goal.read_branches-b-requires
-read_branches-b-requires c = let bytes = c.args.bytes.now in
-    let r = c.read_head-h in
-    let z : r.result.refused ≡ 0 = omega (arith, c.if-h-ne0.false) in
+pub read_branches-requires : goal.read_branches-requires
+read_branches-requires c = let bytes = c.args.bytes.now in
+    let h = c.in_ok-h.h in
     record {
-      rows_bound = few-rows bytes r.result r.ensures z;
-      each_below = few-variants bytes r.result r.ensures z;
-      each_below_2 = types-there bytes r.result r.ensures z;
+      rows_bound = few-rows bytes h.value h.at c.in_ok-h.ensures;
+      each_below = few-variants bytes h.value h.at c.in_ok-h.ensures;
+      each_below_2 = types-there bytes h.value h.at c.in_ok-h.ensures;
     }
 
-pub returns-then-b-ne0 : goal.returns-then-b-ne0
-returns-then-b-ne0 c = let b = c.read_branches-b in
-    let r = c.read_head-h in
-    c.no_procedure-then-b-ne0.ensures
-    ∙ branches_stop c.args.bytes.now r.result r.ensures (omega (arith, c.if-h-ne0.false)) b.result b.ensures (omega arith)
+pub returns-in_err-b : goal.returns-in_err-b
+returns-in_err-b c = let h = c.in_ok-h.h in
+    let p = err_from_is_err_and c.from_residual-in_err-b.result c.from_residual-in_err-b.ensures.1 in
+    rw (p.1, p.2) (branches_stop c.args.bytes.now h.value h.at c.in_ok-h.ensures (number_of c.in_err-b.field-0.0) c.in_err-b.ensures)
 
 pub returns : goal.returns
-returns c = let b = c.read_branches-b in
-    let r = c.read_head-h in
-    all_read c.args.bytes.now r.result r.ensures (omega (arith, c.if-h-ne0.false)) b.result b.ensures (omega arith)
+returns c = let h = c.in_ok-h.h in
+    all_read c.args.bytes.now h.value h.at c.in_ok-h.ensures c.in_ok-b.b c.in_ok-b.ensures
