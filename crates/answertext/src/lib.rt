@@ -2,15 +2,17 @@
 // row. `specs/Text.antt` says what the text is.
 #![tactic(auto)]
 
-ghost use Rattle.std.specs.Prelude.{◌≡◌, ◌+◌, ◌*◌, ◌<◌, ◌≤◌, length};
+ghost use Rattle.std.specs.Prelude.{◌≡◌, [], ◌+◌, ◌*◌, ◌<◌, ◌≤◌, length};
 ghost use Rattle.laws.specs.Lists.{concat_map, from};
 ghost use Rattle.guard.specs.Answer.{rows_of};
 ghost use Rattle.guard.specs.File.{file};
 ghost use Rattle.guard.specs.Limits.{base};
+ghost use Rattle.tables.specs.Layout.{type_table};
 ghost use Rattle.writing.specs.Written.{Written};
 ghost use Rattle.answertext.specs.Text.{answer_text, shown_text, term_line, terms_in, types_in, verdict_line};
 
 use guard::Answer;
+use tables::TypeTable;
 
 // ---- terms
 
@@ -45,7 +47,21 @@ fn put_verdict(out: &mut [u8], name: &[u8], n: u32) -> usize
     writing::put_bytes(out, next, b"\n")
 }
 
-// The rows and terms that are shown. How many fields each variant has, and how many terms there are, is the file's.
+// The table of no types.
+fn no_types() -> TypeTable
+    ensures { result ≡ type_table [] }
+{
+    TypeTable {
+        many: 0,
+        variants: [0; 6],
+        first: [0; 6],
+        arities: [0; 48],
+        sorts: [0; 144],
+    }
+}
+
+// The rows and terms that are shown. How many fields each variant has, and how many terms there are, is the file's; one that is refused
+// has no types and no terms.
 fn put_shown(
     out: &mut [u8],
     at: usize,
@@ -57,10 +73,14 @@ fn put_shown(
     requires { at + (96 * many + 2304) ≤ length out.old }
     ensures { Written (96 * many + 2304) out.old at (shown_text (types_in (file base bytes.now)) (terms_in (file base bytes.now)) many rows.now places.now) out.new result }
 {
-    let t = reader::read(bytes, 6, 24, 32);
-    let next = rowtext::put_rows(out, at, t.types, rows, many);
-    let table = t.rows;
-    put_terms(out, next, places, table.many as u32)
+    match reader::read(bytes, 6, 24, 32) {
+        Ok(t) => {
+            let next = rowtext::put_rows(out, at, t.types, rows, many);
+            let table = t.rows;
+            put_terms(out, next, places, table.many as u32)
+        }
+        Err(_) => rowtext::put_rows(out, at, no_types(), rows, many),
+    }
 }
 
 // The text of the answer to a file, whose messages the two buffers show; the text's length.

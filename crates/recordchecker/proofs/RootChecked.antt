@@ -1,28 +1,30 @@
 -- From the root to the whole check: the root begins, the record ends with the last branch, the file's questions come first.
 -- Assumes nothing.
-use mathlib.Core.Path.{◌≡◌, refl, ap, sym, ◌∙◌}
+use mathlib.Core.Path.{◌≡◌, refl, ap, sym, subst, ◌∙◌}
 use mathlib.Core.List.{List, [], ◌∷◌, foldl}
 use Rattle.std.proofs.Common.{Result, Ok, Err}
-use Prim.Native.Nat.{ℕ, zero, suc, ◌≤◌, ◌<◌}
+use Prim.Native.Nat.{ℕ, ◌≤◌, ◌<◌}
 use native.Mathlib.Omega.{arith}
 use lib.ListN.{length, drop, length-drop}
 use Rattle.laws.proofs.Lists.{length-nil}
 use Rattle.guard.specs.Closure.{State, add}
 use Rattle.guard.specs.Guard.{Guard}
+use Rattle.guard.specs.File.{file}
 use Rattle.guard.specs.Limits.{base}
-use Rattle.guard.specs.Number.{Parsed.refused, and_then}
+use Rattle.guard.specs.Number.{Parsed, Parsed.accepted, Parsed.refused, and_then}
 use Rattle.guard.specs.Question.{number_of}
 use Rattle.guard.specs.declared.Question.{Question}
 use Rattle.guard.specs.declared.Question.TheVariants.{ShortBuffer, Truncated, Malformed, TooMany, UnknownName, UnknownKind, TypeMismatch, NoDefault, NoInfiniteField, TrailingBytes, RecordTooLong, FalseEntry, RecordEnd, FileTooLong, TypesDiffer, VariablesDiffer, TwoNumberTypes, BranchCount}
 use Rattle.guard.proofs.Claims.{accepts-all, base-supported}
 use Rattle.guard.proofs.ClosureEnds.{first}
 use Rattle.reader.specs.declared.Tables.{Tables}
-use Rattle.reader.specs.Reader.{guard_tables, tables_at}
+use Rattle.reader.specs.Reader.{guard_tables, in_tables}
+use Rattle.numbers.specs.Reader.{ReadsAll}
 use Rattle.problem.specs.declared.Problem.{Problem}
 use Rattle.problem.specs.Columns.{problem_by}
 use Rattle.search.specs.Nodes.{Accepted}
 use Rattle.roots.proofs.RootLaws.{arrays_of, given_in, root_begun}
-use Rattle.reader.proofs.TablesRead.{guard-tables, refused-file, taken-file}
+use Rattle.reader.proofs.TablesRead.{Taken, refused-file, taken-file}
 use Rattle.roots.proofs.TablesRead.{guard-accepted}
 use Rattle.refutations.specs.Checker.{check, checked, no_more}
 use Rattle.refutations.proofs.Theorems.{file-refused, file-taken}
@@ -39,45 +41,42 @@ root-checked tables p ep bytes r s es h g ok is = h g g.literals ok (arrays_of t
 
 -- ---- the end of the record
 
-is-question : (q : ℕ) → ¬ (q ≡ 0) → answer q ≡ refused q
-is-question zero n = absurd (n refl)
-is-question (suc q) n = refl
-
 more_bytes : (bs : List ℕ) → 0 < length bs → no_more bs ≡ refused 13
 more_bytes [] h = absurd (omega (arith, h))
 more_bytes (b ∷ bs) h = refl
 
--- no question has the number 0
-answered : (q : Question) → answer (number_of q) ≡ refused (number_of q)
-answered q = elim q as (λ x. answer (number_of x) ≡ refused (number_of x)) [ ShortBuffer ↦ refl | Truncated ↦ refl | Malformed ↦ refl | TooMany ↦ refl | UnknownName ↦ refl | UnknownKind ↦ refl | TypeMismatch ↦ refl | NoDefault ↦ refl | NoInfiniteField ↦ refl | TrailingBytes ↦ refl | RecordTooLong ↦ refl | FalseEntry ↦ refl | RecordEnd ↦ refl | FileTooLong ↦ refl | TypesDiffer ↦ refl | VariablesDiffer ↦ refl | TwoNumberTypes ↦ refl | BranchCount ↦ refl ]
-
 module _ (tables : Tables) (bytes : List ℕ) where
-  pub node-refused : (q : Question) → ChecksRoot tables bytes (Err q) → ChecksTables tables bytes (number_of q)
+  pub root-refused : (q : Question) → ChecksRoot tables bytes (Err q) → ChecksTables tables bytes (Err q)
   unfolding ChecksRoot ChecksTables check
-  node-refused q root g ok is = answered q ∙ sym (ap (and_then (λ (u : Unit {0}). no_more)) (root g ok is))
+  root-refused q root g ok is = ap (and_then (λ (u : Unit {0}). no_more)) (root g ok is)
 
   module _ (at : ℕ) (root : ChecksRoot tables bytes (Ok at)) where
     read : (g : Guard) → Accepted g → tables ≡ guard_tables g → check g bytes ≡ no_more (drop at bytes)
     unfolding ChecksRoot check
     read g ok is = ap (and_then (λ (u : Unit {0}). no_more)) (root g ok is).accepts
 
-    pub runs_on : at < length bytes → ChecksTables tables bytes 13
+    pub runs_on : at < length bytes → ChecksTables tables bytes (Err RecordEnd)
     unfolding ChecksTables
-    runs_on h g ok is = sym (read g ok is ∙ more_bytes (drop at bytes) (omega (arith, length-drop at bytes)))
+    runs_on h g ok is = read g ok is ∙ more_bytes (drop at bytes) (omega (arith, length-drop at bytes))
 
-    pub ends : length bytes ≤ at → ChecksTables tables bytes 0
+    pub ends : length bytes ≤ at → ChecksTables tables bytes (Ok tt)
     unfolding ChecksTables
-    ends h g ok is = sym (read g ok is ∙ ap no_more (length-nil (drop at bytes) (omega (arith, length-drop at bytes))))
+    ends h g ok is = read g ok is ∙ ap no_more (length-nil (drop at bytes) (omega (arith, length-drop at bytes)))
 
 -- ---- the file
 
-module _ (bytes written : List ℕ) (t : Tables) (is : t ≡ tables_at base bytes) where
-  pub file-refuses : ¬ (t.refused ≡ 0) → answer t.refused ≡ checked base bytes written
-  file-refuses n = is-question t.refused n ∙ sym (file-refused base bytes written t.refused (refused-file base bytes t is n))
+module _ (bytes written : List ℕ) where
+  pub file-refuses : (q : ℕ) → in_tables (file base) bytes ≡ refused q → checked base bytes written ≡ refused q
+  file-refuses q e = file-refused base bytes written q (refused-file base bytes q e)
 
-  pub file_takes : t.refused ≡ 0 → (r : ℕ) → ChecksTables t written r → answer r ≡ checked base bytes written
+  pub file_takes : (t : Tables) → in_tables (file base) bytes ≡ accepted t [] → (r : Result (Unit {0}) Question) → ChecksTables t written r → ReadsAll (checked base bytes written) r
   unfolding ChecksTables
-  file_takes z r c =
-      let (g, rest, e) = taken-file base bytes t is z in
-      c g (guard-accepted base base-supported bytes g rest e) (guard-tables base bytes t is g rest e)
-      ∙ sym (file-taken base bytes written g (accepts-all base bytes g rest base-supported e))
+  file_takes t e r c =
+      let k : Taken base bytes t = taken-file base bytes t e in
+      subst (λ (p : Parsed (Unit {0})). ReadsAll p r) (sym (file-taken base bytes written k.guard (accepts-all base bytes k.guard [] base-supported k.parsed)))
+      (c k.guard (guard-accepted base base-supported bytes k.guard [] k.parsed) k.is)
+
+-- ---- as a number
+
+pub question-answer : (q : Question) → answer (number_of q) ≡ refused (number_of q)
+question-answer q = elim q as (λ x. answer (number_of x) ≡ refused (number_of x)) [ ShortBuffer ↦ refl | Truncated ↦ refl | Malformed ↦ refl | TooMany ↦ refl | UnknownName ↦ refl | UnknownKind ↦ refl | TypeMismatch ↦ refl | NoDefault ↦ refl | NoInfiniteField ↦ refl | TrailingBytes ↦ refl | RecordTooLong ↦ refl | FalseEntry ↦ refl | RecordEnd ↦ refl | FileTooLong ↦ refl | TypesDiffer ↦ refl | VariablesDiffer ↦ refl | TwoNumberTypes ↦ refl | BranchCount ↦ refl ]

@@ -4,13 +4,14 @@ use Rattle.guard.specs.Guard.{Guard}
 use Rattle.guard.specs.Number.{Parsed, Parsed.accepted, Parsed.refused}
 use Rattle.guard.specs.declared.Question.{Question}
 use Rattle.guard.specs.Terms.{table_of}
+use Rattle.numbers.specs.Reader.{ReadsAll}
 use Rattle.reader.specs.declared.Tables.{Tables}
 use Rattle.reader.specs.Reader.{guard_tables}
 use Rattle.search.specs.Nodes.{Accepted}
 use Rattle.refutations.specs.Checker.{check, check_from}
 use Rattle.nodechecker.specs.Nodes.{Passes}
 
--- what the checker's number says: 0 that the record is accepted, any other the question that got the first no
+-- what a number says: 0 that the record is accepted, any other the question that got the first no
 abbrev pub answer : ℕ → Parsed (Unit {0})
 answer zero = accepted tt []
 answer (suc q) = refused (suc q)
@@ -21,5 +22,5 @@ ChecksRoot tables bytes r =
     (g : Guard) → Accepted g → tables ≡ guard_tables g → Passes (check_from (table_of g) g.literals g.literals bytes) bytes r
 
 -- the record against the tables of a guard that a reader took
-unfoldable pub ChecksTables : Tables → List ℕ → ℕ → Type 0
-ChecksTables tables bytes r = (g : Guard) → Accepted g → tables ≡ guard_tables g → answer r ≡ check g bytes
+unfoldable pub ChecksTables : Tables → List ℕ → Result (Unit {0}) Question → Type 0
+ChecksTables tables bytes r = (g : Guard) → Accepted g → tables ≡ guard_tables g → ReadsAll (check g bytes) r

@@ -3,10 +3,11 @@
 
 ghost use Rattle.std.specs.Prelude.{◌≡◌};
 ghost use Rattle.guard.specs.Limits.{base};
+ghost use Rattle.numbers.specs.Reader.{ReadsAll};
 ghost use Rattle.problem.specs.Columns.{problem_by};
 ghost use Rattle.roots.specs.Roots.{GuardsTables};
 ghost use Rattle.refutations.specs.Checker.{checked};
-ghost use Rattle.recordchecker.specs.Checks.{ChecksRoot, ChecksTables, answer};
+ghost use Rattle.recordchecker.specs.Checks.{ChecksRoot, ChecksTables};
 
 use guard::Question;
 use problem::Problem;
@@ -70,29 +71,22 @@ fn check_root(tables: Tables, problem: Problem, written: &[u8]) -> Result<usize,
 }
 
 // The record against the tables of a guard; it ends with the last branch.
-fn check_tables(tables: Tables, written: &[u8]) -> u32
+fn check_tables(tables: Tables, written: &[u8]) -> Result<(), Question>
     requires { GuardsTables tables }
     ensures { ChecksTables tables written.now result }
 {
     let problem = problem::problem_of(tables);
-    match check_root(tables, problem, written) {
-        Ok(end) => {
-            if end < written.len() {
-                return 13;
-            }
-            0
-        }
-        Err(q) => q.number(),
+    let end = check_root(tables, problem, written)?;
+    if end < written.len() {
+        return Err(Question::RecordEnd);
     }
+    Ok(())
 }
 
-// A record against a guard file: 0 if it is accepted, else the first question that gets a no, 2 to 10 of the file, 12 or 13.
-pub fn check(file: &[u8], written: &[u8]) -> u32
-    ensures { answer result ≡ checked base file.now written.now }
+// A record against a guard file: the first question that gets a no is one of 2 to 10, asked of the file, or 12 or 13.
+pub fn check(file: &[u8], written: &[u8]) -> Result<(), Question>
+    ensures { ReadsAll (checked base file.now written.now) result }
 {
-    let t = reader::read(file, 6, 24, 32);
-    if t.refused != 0 {
-        return t.refused;
-    }
+    let t = reader::read(file, 6, 24, 32)?;
     check_tables(t, written)
 }

@@ -1,21 +1,17 @@
 -- `check` meets its contract. Assumes nothing.
-use native.Mathlib.Omega.{arith}
-use Rattle.guard.specs.Limits.{base}
+use Rattle.std.proofs.lemmas.Result.{err_from_is_err_and}
+use Rattle.guard.specs.Question.{number_of}
 use Rattle.guard.proofs.Claims.{base-supported}
 use Rattle.roots.proofs.TablesRead.{tables-read}
 use Rattle.recordchecker.proofs.RootChecked.{file-refuses, file_takes}
 use Rattle.recordchecker.proofs.check.Goals as goal
 
-pub returns-then-t-ne0 : goal.returns-then-t-ne0
-returns-then-t-ne0 c = let a = c.args in
-    let t = c.read-t in
-    file-refuses a.file.now a.written.now t.result t.ensures c.if-t-ne0.true
+pub returns-in_err-t : goal.returns-in_err-t
+returns-in_err-t c = let p = err_from_is_err_and c.from_residual.result c.from_residual.ensures.1 in
+    rw (p.1, p.2) (file-refuses c.args.file.now c.args.written.now (number_of c.in_err-t.field-0.0) c.in_err-t.ensures)
 
 pub check_tables-requires : goal.check_tables-requires
-check_tables-requires c = let t = c.read-t in
-    tables-read base base-supported c.args.file.now t.result t.ensures (omega (arith, c.if-t-ne0.false))
+check_tables-requires c = tables-read _ base-supported c.args.file.now c.in_ok-t.t c.in_ok-t.ensures
 
 pub returns : goal.returns
-returns c = let a = c.args in
-    let t = c.read-t in
-    file_takes a.file.now a.written.now t.result t.ensures (omega (arith, c.if-t-ne0.false)) c.check_tables.result c.check_tables.ensures
+returns c = file_takes c.args.file.now c.args.written.now c.in_ok-t.t c.in_ok-t.ensures c.check_tables.result c.check_tables.ensures
