@@ -1,36 +1,16 @@
 -- Which question the number for an answer tells. Assumes nothing.
-<<<<<<< HEAD
-use Rattle.std.proofs.Common.{◌≡◌, ap, ℕ, zero, suc, ◌<◌, arith}
-use Rattle.std.specs.Prelude.{Result, Ok, Err, IfErr, IsErrAnd}
-=======
 use Rattle.std.proofs.Common.{◌≡◌, refl, ap, ℕ, zero, suc, ◌<◌, arith}
 use Rattle.std.specs.Prelude.{Result, Ok, Err}
->>>>>>> b3d65ecb3de70eb679ca235558cc63597d20ea6b
 use lib.IntN.{negsuc}
 use Rattle.guard.specs.Question.{number_of}
 use Rattle.guard.specs.declared.Question.{Question}
 use Rattle.returncodes.specs.Code.{code_of, minus}
 
 -- a question's number is told of that question alone
-<<<<<<< HEAD
-pub code-tells : (answer : Result ℕ Question) (k : ℕ) → 0 < k → code_of answer ≡ minus k → IsErrAnd answer (λ q. number_of q ≡ k)
-code-tells (Ok n) (suc k) l e = absurd cc
-code-tells (Err q) (suc k) l e = told (number_of q) e
-  where
-    told : (p : ℕ) → minus p ≡ negsuc k → p ≡ suc k
-    told zero e = absurd cc
-    told (suc p) e = let z : p ≡ k = cc in ap suc z
-code-tells answer zero l e = absurd (omega arith)
-
-pub not-told : (answer : Result ℕ Question) (k : ℕ) → 0 < k → IfErr answer (λ q. ¬ (number_of q ≡ k)) → ¬ (code_of answer ≡ minus k)
-not-told (Ok n) (suc k) l h e = absurd cc
-not-told (Err q) (suc k) l h e = of_minus (number_of q) h e
-=======
 pub code-tells : (answer : Result ℕ Question) (k : ℕ) → 0 < k → code_of answer ≡ minus k → (q : Question) × (answer ≡ Err q) × (number_of q ≡ k)
 code-tells answer zero l e = absurd (omega arith)
 code-tells (Ok n) (suc k) l e = absurd cc
 code-tells (Err q) (suc k) l e = (q, refl, of_minus (number_of q) e)
->>>>>>> b3d65ecb3de70eb679ca235558cc63597d20ea6b
   where
     of_minus : (p : ℕ) → minus p ≡ negsuc k → p ≡ suc k
     of_minus zero e = absurd cc
