@@ -2,6 +2,7 @@
 // its tables and a sum over all their entries.
 #![tactic(auto)]
 
+use guard::Question;
 use reader::Tables;
 use siblings::Siblings;
 use tables::{LiteralTable, RowTable, TypeTable};
@@ -90,13 +91,13 @@ fn mix_tables(t: Tables) -> u64 {
 
 // ---- the lines
 
-fn print_refused(question: u32) {
+fn print_refused(question: Question) {
     io::write_all(1, b"refused ");
-    io::print_decimal(1, question as u64);
+    io::print_decimal(1, question.number() as u64);
     io::write_all(1, b"\n");
 }
 
-fn print_tables(types: usize, rows: usize, lines: usize, sum: u64) {
+fn print_sizes(types: usize, rows: usize, lines: usize, sum: u64) {
     io::print_decimal(1, types as u64);
     io::write_all(1, b" types ");
     io::print_decimal(1, rows as u64);
@@ -107,15 +108,11 @@ fn print_tables(types: usize, rows: usize, lines: usize, sum: u64) {
     io::write_all(1, b"\n");
 }
 
-fn print_read(t: Tables) {
-    if t.refused != 0 {
-        print_refused(t.refused);
-        return;
-    }
+fn print_tables(t: Tables) {
     let types = t.types;
     let rows = t.rows;
     let literals = t.literals;
-    print_tables(types.many, rows.many, literals.many, mix_tables(t));
+    print_sizes(types.many, rows.many, literals.many, mix_tables(t));
 }
 
 // Answers whether there was a file.
@@ -124,7 +121,10 @@ fn read_next(buffer: &mut [u8]) -> bool {
     if buffer.len() < n {
         return false;
     }
-    print_read(reader::read(&buffer[..n], 6, 24, 32));
+    match reader::read(&buffer[..n], 6, 24, 32) {
+        Ok(t) => print_tables(t),
+        Err(q) => print_refused(q),
+    }
     packed::next_budget();
     true
 }
