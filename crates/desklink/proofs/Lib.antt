@@ -1,2 +1,3 @@
 pub mod Linked
+pub mod Codes
 pub mod Corollaries

@@ -1,16 +1,14 @@
 -- What a program in another language is given by its calls: the answer as five numbers, and a return code or the length of a record. Assumes nothing:
 -- definitions.
-use Rattle.std.specs.Prelude.{◌≡◌, List, ◌++◌, ℕ, ◌-◌, ◌^◌, ◌≤◌, ◌<◌, ℤ, length, drop}
+use Rattle.std.specs.Prelude.{◌≡◌, List, ◌++◌, ℕ, ◌-◌, ◌^◌, ◌≤◌, ◌<◌, ℤ, pos, length, drop, Result, Ok, Err}
 use Rattle.guard.specs.Limits.{Limits}
 use Rattle.guard.specs.declared.Answer.{Answer}
 use Rattle.answernumbers.specs.Numbers.{answer_length, answer_numbers}
 use Rattle.decidewithin.specs.Decides.{Decides}
 use Rattle.explain.specs.Explains.{Explains}
-use Rattle.filewriter.specs.declared.FileWritten.{FileWritten}
-use Rattle.returncodes.specs.Code.{code_of}
-use Rattle.guard.specs.Number.{Parsed}
+use Rattle.returncodes.specs.Code.{minus}
+use Rattle.guard.specs.Number.{Parsed, Parsed.accepted, Parsed.refused}
 use Rattle.branches.specs.Procedure.{Procedure}
-use Rattle.branchverdicts.specs.Judging.{answer_to}
 
 -- return codes: the call was answered; the answer buffer is too short
 abbrev pub answered_code : ℕ
@@ -52,11 +50,13 @@ pub record LinksExplained (limits : Limits) (bytes : List ℕ) (budget : ℕ) (r
 -- ---- the writer
 
 -- what is returned: the number of bytes, or minus the number of the question
-abbrev pub written_code : FileWritten → ℤ
-written_code w = code_of w.refused w.bytes
+abbrev pub written_code : Result ℕ ℕ → ℤ
+written_code (Ok n) = pos n
+written_code (Err q) = minus q
 
 -- ---- branches
 
 -- what is returned: the number of branches, or minus the number of the question
 abbrev pub judged_code : Parsed Procedure → ℤ
-judged_code p = code_of (answer_to p).refused (answer_to p).branches
+judged_code (accepted p rest) = pos (length p.branches)
+judged_code (refused q) = minus q
