@@ -78,12 +78,7 @@ fn read_name(bytes: &[u8], at: usize, limit: u32) -> Result<Read<u64>, Question>
 }
 
 // The second number of a row of this kind. A built row's is a variant type.
-fn read_second(
-    bytes: &[u8],
-    at: usize,
-    table: TypeTable,
-    kind: u64,
-) -> Result<Read<u64>, Question>
+fn read_second(bytes: &[u8], at: usize, table: TypeTable, kind: u64) -> Result<Read<u64>, Question>
     requires { TypesInRange table }
     ensures { Reads (second (types_of table) kind (drop at bytes.now)) bytes.now result }
 {

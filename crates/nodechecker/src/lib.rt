@@ -66,8 +66,8 @@ pub fn check_node(
             )?;
             classes::restrict(classes, labels, x, 65535 - bit);
             check_node(
-                classes, labels, shapes, reads, sorts, full, fieldless, labelled, count,
-                constants, values, kinds, terms, others, many, bytes, next,
+                classes, labels, shapes, reads, sorts, full, fieldless, labelled, count, constants,
+                values, kinds, terms, others, many, bytes, next,
             )
         }
     }

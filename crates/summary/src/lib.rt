@@ -24,12 +24,7 @@ pub fn summarize(file: &[u8], budget: u32, summary: &mut [u16]) -> Result<(), Qu
 }
 
 // Brings the summary of the guard in a file up to date with a line that is added to the guard.
-pub fn add_line(
-    file: &[u8],
-    line: &[u8],
-    budget: u32,
-    summary: &mut [u16],
-) -> Result<(), Question>
+pub fn add_line(file: &[u8], line: &[u8], budget: u32, summary: &mut [u16]) -> Result<(), Question>
     ensures value { ReadsAll (passed (asks_line file.now line.now (length summary.old))) result }
     ensures summary_after { summary.new ≡ brought budget summary.old (asks_line file.now line.now (length summary.old)) }
 {
