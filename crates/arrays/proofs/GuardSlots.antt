@@ -7,12 +7,13 @@ use mathlib.Core.Option.{Option, none, some}
 use Prim.Native.Nat.{ℕ, zero, suc, ◌+◌, ◌*◌, ◌-◌, ◌^◌, ◌≤◌, ◌<◌}
 use native.Mathlib.Nat.{add-zero}
 use native.Mathlib.Omega.{arith}
-use lib.Dec.{ltb}
+use lib.Dec.{eqb, ltb}
 use lib.ListN.{get_or-eq_default, get_or, length}
-use borrow.Author.Tests.{ltb-false, ltb-true}
+use borrow.Author.Tests.{eq-eqb, ltb-false, ltb-true}
 use Rattle.laws.specs.All.{All, All.more, All.none}
 use Rattle.laws.proofs.Bools.{by_test, either}
-use Rattle.laws.proofs.Lists.{map-length}
+use Rattle.laws.specs.Lists.{from}
+use Rattle.laws.proofs.Lists.{any_of, map-length, mem_from}
 use Rattle.guard.specs.Closure.{every_variant}
 use Rattle.guard.specs.Guard.{Guard, Row, Row.built, Row.constant, Row.field, Row.variable, row_at, type_at}
 use Rattle.guard.specs.Limits.{Limits, Supported, total_variant_limit, variant_limit}
@@ -26,7 +27,7 @@ use Rattle.tables.specs.Layout.{flat, pad}
 use Rattle.tables.proofs.Columns.{pad_get}
 use Rattle.arrays.specs.Arrays.{default_shape, fieldless_of, kind_number, no_shape, reads_of, row_read, row_shape, shape, shapes_of, sorts_of}
 use Rattle.arrays.proofs.SlotLaws.{default-shape-at, field-length, fieldless-at, fieldless-none, no-default-shape, no-row-read, no-row-shape, row-read-at, row-shape-at, sort_of, sort-term, sorts-small}
-use Rattle.arrays.specs.Slots.{ReadsFit, ShapesFit, SortsFit, kind_at, many_at, others_at, owner_at, part_at}
+use Rattle.arrays.specs.Slots.{ReadsFit, ShapesFit, SortsFit, kind_at, many_at, others_at, owner_at, part_at, read_bit}
 use Rattle.arrays.proofs.TableSlots.{ReadSlot, ReadSlots, ShapeSlot, ShapeSlots, Shaped, Shaped.of_build, Shaped.of_read, SortSlots}
 
 -- slot k, of so many places each, is this list
@@ -122,7 +123,7 @@ module _ (limits : Limits) (sup : Supported limits) (g : Guard) (ok : WellFormed
       record {
         term = λ k h. either (λ x. omega (arith, x.2.term, (ranged.reads x.0 x.1).1)) (λ z. omega (arith, head-place (reads_of g) 4 k, z 0 (omega arith))) (read-cases k);
         default = λ k h. either (λ x. omega (arith, x.2.default, (ranged.reads x.0 x.1).3)) (λ z. omega (arith, z 3 (omega arith))) (read-cases k);
-        bit = λ k h n. let (r, m, slot) = read_slots.found k h n in (r.variant, slot.variant_fits, slot.bit);
+        bit = λ k h n. let (r, m, slot) = read_slots.found k h n in any_of (λ v. eqb (read_bit (reads_of g) k) (2 ^ v)) (from variant_limit 0) r.variant (mem_from variant_limit 0 r.variant (omega arith) (omega (arith, slot.variant_fits))) (eq-eqb _ _ slot.bit);
       }
 
   -- ---- shapes

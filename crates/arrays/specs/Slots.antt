@@ -1,8 +1,9 @@
 -- The slots of the problem's arrays: what stands in each, when a shape is active and when a term is of one fieldless variant alone.
 -- Assumes nothing: definitions.
-use Rattle.std.specs.Prelude.{◌≡◌, Bool, not, ◌&&◌, List, ℕ, ◌+◌, ◌*◌, ◌^◌, ◌≤◌, ◌<◌, eqb, get_or}
+use Rattle.std.specs.Prelude.{◌≡◌, Bool, true, not, ◌&&◌, List, ℕ, ◌+◌, ◌*◌, ◌^◌, ◌≤◌, ◌<◌, eqb, get_or}
 use Rattle.std.specs.Int.Bits.{bit_and}
 use Rattle.laws.specs.Bits.{bit}
+use Rattle.laws.specs.Lists.{any, from}
 use Rattle.guard.specs.Closure.{State, alone, label_of}
 use Rattle.guard.specs.Limits.{variant_limit}
 
@@ -57,7 +58,7 @@ pub record ReadsFit (reads : List ℕ) : Type 0 where
   pub term : (k : ℕ) → k < 24 → read_term reads k < 96
   pub default : (k : ℕ) → k < 24 → read_default reads k < 96
   -- one variant alone is read
-  pub bit : (k : ℕ) → k < 24 → ¬ (read_key reads k ≡ 0) → (v : ℕ) × (v < variant_limit) × (read_bit reads k ≡ 2 ^ v)
+  pub bit : (k : ℕ) → k < 24 → ¬ (read_key reads k ≡ 0) → any (λ v. eqb (read_bit reads k) (2 ^ v)) (from variant_limit 0) ≡ true
 
 -- ---- terms of one fieldless variant
 

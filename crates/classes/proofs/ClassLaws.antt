@@ -70,18 +70,8 @@ rename-long : (low high : ℕ) (cs : List ℕ) → length (rename low high cs) �
 rename-long low high [] = refl
 rename-long low high (c ∷ cs) = ap suc (rename-long low high cs)
 
-pub held_after : (s : State) (f : Fact) → Held s.classes → Held (add s f).classes
-held_after s (same i j) h = either (eqb (class_of s i) (class_of s j))
-  where
-    either : (b : Bool) → Held (merge_unless b s (class_of s i) (class_of s j)).classes
-    either true = h
-    either false =
-        record {
-          long = rename-long (min (class_of s i) (class_of s j)) (max (class_of s i) (class_of s j)) s.classes ∙ h.long;
-          there = rename-there (min (class_of s i) (class_of s j)) (max (class_of s i) (class_of s j)) s.classes (omega (arith, h.there i, h.there j)) h.there;
-        }
-held_after s (within i m) h = h
-
--- so the arrays of code that adds a fact stay as they have to be
-pub still_held : (cs ls cs' ls' : List ℕ) (f : Fact) → Held cs → state cs' ls' ≡ add (state cs ls) f → Held cs'
-still_held cs ls cs' ls' f h e = subst Held (sym (ap (λ (s : State). s.classes) e)) (held_after (state cs ls) f h)
+-- and so is the array of the state after a merge
+pub merge_held : (cs ds : List ℕ) (c d : ℕ) → Held cs → c < 96 → d < 96 → ds ≡ rename (min c d) (max c d) cs → Held ds
+merge_held cs ds c d h small small' e =
+    subst Held (sym e)
+    (record { long = rename-long (min c d) (max c d) cs ∙ h.long; there = rename-there (min c d) (max c d) cs (omega (arith, small, small')) h.there })

@@ -1,1 +1,2 @@
 pub mod ClassLaws
+pub mod First

@@ -1,27 +1,34 @@
-// Equivalence classes of terms, each named by its lowest member, with a label for each class: a state with one fact more.
+// Equivalence classes of terms, each named by its lowest member, with a label for each class: the state of a node, with one fact more.
 // There is room for 18 terms more than the 78 of today.
 #![tactic(auto)]
 
 ghost use Rattle.std.specs.Prelude.{◌≡◌, not, ◌<◌, min, max, length, get_or, set};
 ghost use Rattle.std.specs.Int.Bits.{bit_and};
-ghost use Rattle.guard.specs.Closure.{Fact.same, Fact.within, add, holds, label_of, rename};
-ghost use Rattle.classes.specs.Held.{Held, state};
+ghost use Rattle.guard.specs.Closure.{Fact.same, Fact.within, add, class_of, holds, label_of, rename, same_class};
+ghost use Rattle.guard.proofs.ClosureEnds.{first};
 
-// The class of a term.
-pub fn class_of(classes: &[u8; 96], i: u8) -> u8
-    requires { i < 96 }
-    ensures { result ≡ get_or classes.now i 0 }
-{
-    classes[i as usize]
+use std::marker::Model;
+
+// The class of each term and the label of each class. A contract sees the state of the definitions; that each class is a term is
+// true of every value, and no clause says it.
+#[derive(Clone, Copy)]
+pub struct State {
+    classes: [u8; 96],
+    labels: [u16; 96],
 }
 
-// The label of a term, which is that of its class.
-#[tactic(auto, using(crate::proofs::ClassLaws::class_there))]
-pub fn label_of(classes: &[u8; 96], labels: &[u16; 96], i: u8) -> u16
-    requires { (i < 96) × Held classes.now }
-    ensures { result ≡ label_of (state classes.now labels.now) i }
-{
-    labels[classes[i as usize] as usize]
+impl Model for State {
+    ghost use Rattle.guard.specs.Closure as closure;
+
+    ghost Value = { closure.State };
+
+    ghost use Rattle.classes.specs.Held.{Held};
+
+    ghost view = { λ s. record { classes = s.classes; labels = s.labels } };
+
+    ghost inverse = { λ s. record { classes = s.classes; labels = s.labels } };
+
+    ghost invariant = { λ s. Held s.classes };
 }
 
 // Class `high` becomes `low`.
@@ -52,32 +59,74 @@ fn merge(classes: &mut [u8; 96], labels: &mut [u16; 96], c: u8, d: u8)
     rename(classes, low, high);
 }
 
-// Two terms become equal; true if they were not.
-#[tactic(auto, using(crate::proofs::ClassLaws::same_new, crate::proofs::ClassLaws::same_already, crate::proofs::ClassLaws::same_fails, crate::proofs::ClassLaws::same_holds))]
-pub fn unite(classes: &mut [u8; 96], labels: &mut [u16; 96], i: u8, j: u8) -> bool
-    requires { (i < 96) × (j < 96) × Held classes.old }
-    ensures labels_after { state classes.new labels.new ≡ add (state classes.old labels.old) (same i j) }
-    ensures value { result ≡ not (holds (state classes.old labels.old) (same i j)) }
-{
-    let c = classes[i as usize];
-    let d = classes[j as usize];
-    if c == d {
-        return false;
+impl State {
+    // Each term in a class of its own, its label not cut down yet.
+    pub fn first() -> State
+        ensures { result ≡ first 96 }
+    {
+        let mut classes = [0u8; 96];
+        for x in 0..96 {
+            classes[x] = x as u8;
+        }
+        State {
+            classes,
+            labels: [65535; 96],
+        }
     }
-    merge(classes, labels, c, d);
-    true
-}
 
-// The label of a term is cut down to a mask; true if it was not inside it.
-#[tactic(auto, using(crate::proofs::ClassLaws::class_there))]
-pub fn restrict(classes: &[u8; 96], labels: &mut [u16; 96], i: u8, mask: u16) -> bool
-    requires { (i < 96) × Held classes.now }
-    ensures labels_after { state classes.now labels.new ≡ add (state classes.now labels.old) (within i mask) }
-    ensures value { result ≡ not (holds (state classes.now labels.old) (within i mask)) }
-{
-    let c = classes[i as usize] as usize;
-    let old = labels[c];
-    let cut = old & mask;
-    labels[c] = cut;
-    cut != old
+    // The class of a term.
+    #[tactic(auto, using(crate::proofs::ClassLaws::class_there))]
+    pub fn class_of(&self, x: u8) -> u8
+        requires { x < 96 }
+        ensures value { result ≡ class_of self.now x }
+        ensures there { result < 96 }
+    {
+        self.classes[x as usize]
+    }
+
+    pub fn same_class(&self, x: u8, y: u8) -> bool
+        requires { (x < 96) × (y < 96) }
+        ensures { result ≡ same_class self.now x y }
+    {
+        self.classes[x as usize] == self.classes[y as usize]
+    }
+
+    // The label of a term, which is that of its class.
+    #[tactic(auto, using(crate::proofs::ClassLaws::class_there))]
+    pub fn label_of(&self, x: u8) -> u16
+        requires { x < 96 }
+        ensures { result ≡ label_of self.now x }
+    {
+        self.labels[self.classes[x as usize] as usize]
+    }
+
+    // Two terms become equal; true if they were not.
+    #[tactic(auto, using(crate::proofs::ClassLaws::same_new, crate::proofs::ClassLaws::same_already, crate::proofs::ClassLaws::same_fails, crate::proofs::ClassLaws::same_holds))]
+    pub fn unite(&mut self, x: u8, y: u8) -> bool
+        requires { (x < 96) × (y < 96) }
+        ensures after { self.new ≡ add self.old (same x y) }
+        ensures value { result ≡ not (holds self.old (same x y)) }
+    {
+        let c = self.classes[x as usize];
+        let d = self.classes[y as usize];
+        if c == d {
+            return false;
+        }
+        merge(&mut self.classes, &mut self.labels, c, d);
+        true
+    }
+
+    // The label of a term is cut down to a mask; true if it was not inside it.
+    #[tactic(auto, using(crate::proofs::ClassLaws::class_there))]
+    pub fn restrict(&mut self, x: u8, mask: u16) -> bool
+        requires { x < 96 }
+        ensures after { self.new ≡ add self.old (within x mask) }
+        ensures value { result ≡ not (holds self.old (within x mask)) }
+    {
+        let c = self.classes[x as usize] as usize;
+        let old = self.labels[c];
+        let cut = old & mask;
+        self.labels[c] = cut;
+        cut != old
+    }
 }

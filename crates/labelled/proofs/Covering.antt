@@ -6,13 +6,26 @@ use mathlib.Core.List.{List}
 use Prim.Native.Nat.{ℕ, ◌+◌, ◌≤◌, ◌<◌}
 use native.Mathlib.Omega.{arith}
 use lib.Dec.{eqb, ltb}
-use lib.ListN.{get_or}
+use lib.ListN.{get_or-eq_default, get_or, length, take}
 use borrow.Author.Count.{below_more, below_none}
-use borrow.Author.Tests.{eqb-false, eqb-true, ltb-false, ltb-true}
+use borrow.Author.Tests.{eq-eqb, eqb-false, eqb-true, ltb-false, ltb-true}
+use Rattle.std.proofs.lemmas.List.{get_or-take, length-take-le}
+use Rattle.laws.specs.Lists.{any, from}
 use Rattle.laws.proofs.Bools.{by_test, or_left, or_right}
+use Rattle.laws.proofs.Lists.{any_of, any_some, from_bounds, mem_from}
 use Rattle.loops.specs.Lowest.{lowest}
 use Rattle.loops.proofs.Loops.{NoneBelow, lowest-here, lowest_nowhere}
 use Rattle.labelled.specs.Covers.{Covers, Lists, has_label, has_mask}
+
+-- where a number stands in a list, as a test of all places and as a place
+module _ (list : List ℕ) (many x : ℕ) where
+  pub somewhere : (i : ℕ) → i < many → get_or list i 0 ≡ x → any (λ j. eqb (get_or list j 0) x) (from many 0) ≡ true
+  somewhere i h e = any_of (λ j. eqb (get_or list j 0) x) (from many 0) i (mem_from many 0 i (omega arith) (omega (arith, h))) (eq-eqb _ _ e)
+
+  pub place : any (λ j. eqb (get_or list j 0) x) (from many 0) ≡ true → (i : ℕ) × (i < many) × (get_or list i 0 ≡ x)
+  place e =
+      let (i, m, q) = any_some (λ j. eqb (get_or list j 0) x) (from many 0) e in
+      (i, omega (arith, from_bounds many 0 i m), eqb-true _ _ q)
 
 -- a test that passes less is covered too
 pub covers_less : {p : ℕ → Bool} (q : ℕ → Bool) {n : ℕ} {list : List ℕ} {many : ℕ} → ((x : ℕ) → q x ≡ true → p x ≡ true) → Covers p n list many → Covers q n list many
@@ -20,13 +33,37 @@ covers_less q less c = record { few = c.few; below = c.below; rising = c.rising;
 
 -- the terms that have a label are those with variants, and with fieldless ones
 module _ (sorts full fieldless : List ℕ) {n : ℕ} {list : List ℕ} {many : ℕ} (l : Lists (has_label sorts full fieldless) n list many) where
-  pub covers_full_lem : Covers (has_mask sorts full) n list many
+  pub covers_full : Covers (has_mask sorts full) n list many
   unfolding has_label
-  covers_full_lem = covers_less (has_mask sorts full) (λ x e. or_left (has_mask sorts full x) (has_mask sorts fieldless x) e) l.covers
+  covers_full = covers_less (has_mask sorts full) (λ x e. or_left (has_mask sorts full x) (has_mask sorts fieldless x) e) l.covers
 
-  pub covers-fieldless : Covers (has_mask sorts fieldless) n list many
+  pub covers_fieldless : Covers (has_mask sorts fieldless) n list many
   unfolding has_label
-  covers-fieldless = covers_less (has_mask sorts fieldless) (λ x e. or_right (has_mask sorts full x) (has_mask sorts fieldless x) e) l.covers
+  covers_fieldless = covers_less (has_mask sorts fieldless) (λ x e. or_right (has_mask sorts full x) (has_mask sorts fieldless x) e) l.covers
+
+-- the front part of a list, which holds all that is listed
+module _ (p : ℕ → Bool) (n : ℕ) (list : List ℕ) (many : ℕ) (l : Lists p n list many) (room : many ≤ length list) where
+  front-length : length (take many list) ≡ many
+  front-length = length-take-le many list room
+
+  front-at : (i : ℕ) → i < many → get_or (take many list) i 0 ≡ get_or list i 0
+  front-at i h = get_or-take many list i 0 h
+
+  pub front_lists : Lists p n (take many list) (length (take many list))
+  front_lists =
+      rw front-length
+      (record {
+        covers = record {
+          few = l.covers.few;
+          below = λ i h. rw (front-at i h) (l.covers.below i h);
+          rising = λ i j o h. rw (front-at i (omega arith), front-at j h) (l.covers.rising i j o h);
+          every = λ x h e.
+              let (i, m, q) = place list many x (l.covers.every x h e) in
+              somewhere (take many list) many x i m (front-at i m ∙ q);
+        };
+        passes = λ i h. ap p (front-at i h) ∙ l.passes i h;
+        past = λ i h. get_or-eq_default (take many list) 0 {n = i} (omega (arith, front-length));
+      })
 
 -- ---- how far a loop has come
 
@@ -62,7 +99,7 @@ module _ (p : ℕ → Bool) (n : ℕ) (list : List ℕ) (many : ℕ) (c : Covers
   none_below i x b h reach y l =
       by_test (p y)
       (λ e.
-      let (j, m, q) = c.every y (omega arith) e in
+      let (j, m, q) = place list many y (c.every y (omega arith) e) in
       absurd (by_test (ltb j i) (λ t. false≢true (sym (h j (ltb-true j i t)) ∙ ap p q ∙ e)) (λ t. omega (arith, l, q, reach j (ltb-false j i t) m))))
       (λ e. e)
 
@@ -86,7 +123,7 @@ module _ (p : ℕ → Bool) (n : ℕ) (list : List ℕ) (many : ℕ) (c : Covers
   none_between i x y b o l next =
       by_test (p y)
       (λ e.
-      let (j, m, q) = c.every y l e in
+      let (j, m, q) = place list many y (c.every y l e) in
       absurd (by_test (ltb j i) (λ t. omega (arith, q, o, b.after j (ltb-true j i t))) (λ t. omega (arith, q, next j (ltb-false j i t) m))))
       (λ e. e)
 

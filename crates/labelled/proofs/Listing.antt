@@ -11,6 +11,8 @@ use borrow.Author.Tests.{eqb-false, eqb-true, ltb-false, ltb-true}
 use Rattle.laws.proofs.Bools.{by_test}
 use Rattle.arrays.specs.Slots.{SortsFit, sort_at}
 use Rattle.labelled.specs.Covers.{Lists}
+use Rattle.labelled.proofs.Covering.{place, somewhere}
+use Rattle.laws.specs.Lists.{any, from}
 
 zeros : (n i : ℕ) → get_or {A = ℕ} (replicate n 0) i 0 ≡ 0
 zeros n i = by_test (ltb i n) (λ b. get_or-replicate {A = ℕ} n i 0 0 (ltb-true i n b)) (λ b. get_or-eq_default (replicate {A = ℕ} n 0) 0 (omega (arith, ltb-false i n b, length-replicate {A = ℕ} n 0)))
@@ -65,12 +67,12 @@ module _ (p : ℕ → Bool) where
             by_place j h (λ q. omega (arith, here j q, there i (λ r. omega (arith, r, q)), l.covers.below i (omega (arith, q))))
             (λ n d. omega (arith, there j d, there i (λ r. omega (arith, r)), l.covers.rising i j o n))
 
-        every : (y : ℕ) → y < x + 1 → p y ≡ true → (i : ℕ) × (i < k + 1) × (get_or (set list k x) i 0 ≡ y)
+        every : (y : ℕ) → y < x + 1 → p y ≡ true → any (λ i. eqb (get_or (set list k x) i 0) y) (from (k + 1) 0) ≡ true
         every y h t =
-            by_test (eqb y x) (λ q. (k, omega arith, here k refl ∙ sym (eqb-true y x q)))
+            by_test (eqb y x) (λ q. somewhere (set list k x) (k + 1) y k (omega arith) (here k refl ∙ sym (eqb-true y x q)))
             (λ q.
-            let (i, n, f) = l.covers.every y (omega (arith, eqb-false y x q)) t in
-            (i, omega arith, there i (λ r. omega (arith, r, n)) ∙ f))
+            let (i, n, f) = place list k y (l.covers.every y (omega (arith, eqb-false y x q)) t) in
+            somewhere (set list k x) (k + 1) y i (omega arith) (there i (λ r. omega (arith, r, n)) ∙ f))
 
 -- ---- a term's type is there
 

@@ -1,5 +1,6 @@
 -- Lists of the numbers that pass a test, and the terms that have a label. Assumes nothing: definitions.
 use Rattle.std.specs.Prelude.{◌≡◌, Bool, true, not, ◌||◌, List, ℕ, ◌≤◌, ◌<◌, eqb, get_or}
+use Rattle.laws.specs.Lists.{any, from}
 use Rattle.arrays.specs.Slots.{sort_at}
 
 -- the mask of a term's type holds a variant
@@ -16,7 +17,7 @@ pub record Covers (p : ℕ → Bool) (n : ℕ) (list : List ℕ) (many : ℕ) : 
   pub few : many ≤ n
   pub below : (i : ℕ) → i < many → get_or list i 0 < n
   pub rising : (i j : ℕ) → i < j → j < many → get_or list i 0 < get_or list j 0
-  pub every : (x : ℕ) → x < n → p x ≡ true → (i : ℕ) × (i < many) × (get_or list i 0 ≡ x)
+  pub every : (x : ℕ) → x < n → p x ≡ true → any (λ i. eqb (get_or list i 0) x) (from many 0) ≡ true
 
 -- ... and no others; zeros behind.
 pub record Lists (p : ℕ → Bool) (n : ℕ) (list : List ℕ) (many : ℕ) : Type 0 where

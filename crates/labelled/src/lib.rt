@@ -1,15 +1,24 @@
-// The terms that have a label, in rising order: loops over labels leave all others out.
+// The types of the terms, and the terms that have a label, in rising order: loops over labels leave all others out.
 #![tactic(auto)]
 
-ghost use Rattle.std.specs.Prelude.{◌≡◌, ◌<◌};
-ghost use Rattle.arrays.specs.Slots.{SortsFit};
-ghost use Rattle.labelled.specs.Covers.{Lists, has_label};
+ghost use Rattle.std.specs.Prelude.{◌≡◌, ◌<◌, length};
+ghost use Rattle.arrays.specs.Slots.{SortsFit, fieldless_at, only_is};
+ghost use Rattle.labelled.specs.Covers.{Covers, Lists, has_label, has_mask};
 
-// A list of terms, in the first places, and how many there are.
+use classes::State;
+
+// The type of each term plus one, or 0 where there is no such term. By type plus one: all variants as a mask, and the fieldless ones.
 #[derive(Clone, Copy)]
-pub struct Labelled {
-    pub terms: [u8; 96],
-    pub many: usize,
+pub struct Sorts {
+    pub sorts: [u8; 96],
+    pub full: [u16; 8],
+    pub fieldless: [u16; 8],
+    // the terms that have a label, and how many they are
+    listed: [u8; 96],
+    count: usize,
+    pub ghost fit: { SortsFit sorts },
+    ghost room: { length listed ≡ 96 },
+    ghost lists: { Lists (has_label sorts full fieldless) 78 listed count },
 }
 
 // Whether a term's type has variants.
@@ -23,18 +32,66 @@ fn has_label(sorts: &[u8; 96], full: &[u16; 8], fieldless: &[u16; 8], x: usize) 
     full[sort] != 0 || fieldless[sort] != 0
 }
 
-// The terms below 78 that have a label.
-pub fn labelled_terms(sorts: &[u8; 96], full: &[u16; 8], fieldless: &[u16; 8]) -> Labelled
-    requires { SortsFit sorts.now }
-    ensures { Lists (has_label sorts.now full.now fieldless.now) 78 result.terms result.many }
-{
-    let mut terms = [0u8; 96];
-    let mut many: usize = 0;
-    for x in 0..78 {
-        if has_label(sorts, full, fieldless, x) {
-            terms[many] = x as u8;
-            many += 1;
+impl Sorts {
+    pub fn new(sorts: [u8; 96], full: [u16; 8], fieldless: [u16; 8]) -> Sorts
+        requires { SortsFit sorts }
+        ensures sorts_kept { result.sorts ≡ sorts }
+        ensures full_kept { result.full ≡ full }
+        ensures fieldless_kept { result.fieldless ≡ fieldless }
+    {
+        let mut listed = [0u8; 96];
+        let mut count: usize = 0;
+        for x in 0..78 {
+            if has_label(&sorts, &full, &fieldless, x) {
+                listed[count] = x as u8;
+                count += 1;
+            }
+        }
+        Sorts {
+            sorts,
+            full,
+            fieldless,
+            listed,
+            count,
         }
     }
-    Labelled { terms, many }
+
+    // The terms that have a label: no term with variants is left out, nor one with fieldless ones.
+    pub fn labelled(&self) -> &[u8]
+        ensures lists { Lists (has_label self.now.sorts self.now.full self.now.fieldless) 78 result.now (length result.now) }
+        ensures full { Covers (has_mask self.now.sorts self.now.full) 78 result.now (length result.now) }
+        ensures fieldless { Covers (has_mask self.now.sorts self.now.fieldless) 78 result.now (length result.now) }
+    {
+        &self.listed[..self.count]
+    }
+
+    // All variants of a term's type.
+    #[tactic(auto, using(crate::proofs::Listing::sort_small))]
+    pub fn full_of(&self, x: u8) -> u16
+        requires { x < 96 }
+        ensures { result ≡ fieldless_at self.now.sorts self.now.full x }
+    {
+        self.full[self.sorts[x as usize] as usize]
+    }
+
+    // The fieldless variants of a term's type.
+    #[tactic(auto, using(crate::proofs::Listing::sort_small))]
+    pub fn fieldless_of(&self, x: u8) -> u16
+        requires { x < 96 }
+        ensures { result ≡ fieldless_at self.now.sorts self.now.fieldless x }
+    {
+        self.fieldless[self.sorts[x as usize] as usize]
+    }
+
+    // A term is of one fieldless variant alone.
+    #[tactic(auto, unfolding(arrays::specs::Slots::only_is))]
+    pub fn only_is(&self, state: &State, x: u8, v: u32) -> bool
+        requires { (x < 96) × (v < 16) }
+        ensures { result ≡ only_is self.now.sorts self.now.fieldless state.now x v }
+    {
+        if labels::lacks(self.fieldless_of(x), v) {
+            return false;
+        }
+        labels::is_alone(state.label_of(x), v)
+    }
 }
