@@ -12,7 +12,9 @@ use Rattle.laws.specs.Lists.{any, from}
 use Rattle.laws.proofs.Bools.{by_test, or_left, or_right}
 use Rattle.laws.proofs.Lists.{any_of, any_some, from_bounds, mem_from}
 use Rattle.laws.proofs.Positions.{least, least_first, least_le, least_most, least_passes}
-use Rattle.loops.specs.Lowest.{lowest}
+use Rattle.std.specs.declared.option.Option.{Option}
+use Rattle.std.specs.declared.option.Option.TheVariants.{None, Some}
+use Rattle.loops.specs.Lowest.{Finds, FirstPassing, lowest}
 
 pub or_none_lem : (b : Bool) → (b || false) ≡ b
 or_none_lem true = refl
@@ -50,6 +52,17 @@ module _ (p : ℕ → Bool) where
   pub lowest-none : (n : ℕ) → ltb (lowest p n) n ≡ false → lowest p n ≡ n
   unfolding lowest
   lowest-none n b = omega (arith, ltb-false (least p n) n b, least_most p n)
+
+  pub finds_here : (n k : ℕ) → k < n → NoneBelow k → p k ≡ true → Finds p n (Some k)
+  finds_here n k l h e = (l, lowest-here n k l h e)
+
+  pub finds_nowhere : (n : ℕ) → NoneBelow n → Finds p n None
+  finds_nowhere n h = sym (lowest_nowhere n n (omega arith) h)
+
+  -- calls of a function that computes the test find what the test does
+  pub finds : (post : ℕ → Bool → Type 0) (n : ℕ) (r : Option ℕ) → ((k : ℕ) (b : Bool) → k < n → post k b → b ≡ p k) → FirstPassing post n r → Finds p n r
+  finds post n None same f = finds_nowhere n (λ k h. sym (same k false h (f k h)))
+  finds post n (Some k) same (l, t, f) = finds_here n k l (λ j h. sym (same j false (omega arith) (f j h))) (sym (same k true l t))
 
   pub any_here : (n k : ℕ) → k < n → p k ≡ true → true ≡ any p (from n 0)
   any_here n k l e = sym (any_of p (from n 0) k (mem_from n 0 k (omega arith) (omega arith)) e)
