@@ -15,7 +15,8 @@ pub struct Constants {
 #[tactic(auto, unfolding(crate::specs::Constants::constant_term))]
 pub fn constant_term(k: usize) -> u8
     requires { k < 30 }
-    ensures { result ≡ constant_term k }
+    ensures value { result ≡ constant_term k }
+    ensures there { result < 96 }
 {
     if k < 24 {
         return k as u8;

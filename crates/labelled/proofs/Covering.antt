@@ -13,7 +13,8 @@ use Rattle.std.proofs.lemmas.List.{get_or-take, length-take-le}
 use Rattle.laws.specs.Lists.{any, from}
 use Rattle.laws.proofs.Bools.{by_test, or_left, or_right}
 use Rattle.laws.proofs.Lists.{any_of, any_some, from_bounds, mem_from}
-use Rattle.loops.specs.Lowest.{lowest}
+use Rattle.std.specs.declared.option.Option.TheVariants.{None, Some}
+use Rattle.loops.specs.Lowest.{Finds, lowest}
 use Rattle.loops.proofs.Loops.{NoneBelow, lowest-here, lowest_nowhere}
 use Rattle.labelled.specs.Covers.{Covers, Lists, has_label, has_mask}
 
@@ -108,6 +109,12 @@ module _ (p : ℕ → Bool) (n : ℕ) (list : List ℕ) (many : ℕ) (c : Covers
 
   pub listed_nowhere : (i : ℕ) → many ≤ i → NoneListed p list i → n ≡ lowest p n
   listed_nowhere i l h = lowest_nowhere p n n (omega arith) (none_below i n (omega arith) h (λ j o m. absurd (omega arith)))
+
+  pub listed_finds : (i : ℕ) → i < many → NoneListed p list i → p (get_or list i 0) ≡ true → Finds p n (Some (get_or list i 0))
+  listed_finds i l h e = (c.below i l, listed_here i l h e)
+
+  pub listed_none : (i : ℕ) → many ≤ i → NoneListed p list i → Finds p n None
+  listed_none i l h = sym (listed_nowhere i l h)
 
   -- ---- between the numbers of the list
 

@@ -14,7 +14,7 @@ use Rattle.laws.proofs.Lists.{any_of, any_some, from_bounds, mem_from}
 use Rattle.laws.proofs.Positions.{least, least_first, least_le, least_most, least_passes}
 use Rattle.std.specs.declared.option.Option.{Option}
 use Rattle.std.specs.declared.option.Option.TheVariants.{None, Some}
-use Rattle.loops.specs.Lowest.{Finds, FirstPassing, lowest}
+use Rattle.loops.specs.Lowest.{Finds, FirstPassing, SomePassing, lowest}
 
 pub or_none_lem : (b : Bool) → (b || false) ≡ b
 or_none_lem true = refl
@@ -59,6 +59,14 @@ module _ (p : ℕ → Bool) where
   pub finds_nowhere : (n : ℕ) → NoneBelow n → Finds p n None
   finds_nowhere n h = sym (lowest_nowhere n n (omega arith) h)
 
+  -- a number that is known to be the lowest, or n
+  pub finds_less : (n k : ℕ) → k ≡ lowest p n → k < n → Finds p n (Some k)
+  finds_less n k e l = (l, e)
+
+  pub finds_past : (n k : ℕ) → k ≡ lowest p n → n ≤ k → Finds p n None
+  unfolding lowest
+  finds_past n k e l = omega (arith, e, least_most p n)
+
   -- calls of a function that computes the test find what the test does
   pub finds : (post : ℕ → Bool → Type 0) (n : ℕ) (r : Option ℕ) → ((k : ℕ) (b : Bool) → k < n → post k b → b ≡ p k) → FirstPassing post n r → Finds p n r
   finds post n None same f = finds_nowhere n (λ k h. sym (same k false h (f k h)))
@@ -73,6 +81,10 @@ module _ (p : ℕ → Bool) where
       go : (b : Bool) → (b ≡ true → (x : ℕ) × Memᴰ x (from n 0) × (p x ≡ true)) → false ≡ b
       go false f = refl
       go true f = let (x, m, e) = f refl in absurd (false≢true (sym (h x (omega (arith, (from_bounds n 0 x m).1))) ∙ e))
+
+  pub some_passes : (post : ℕ → Bool → Type 0) (n : ℕ) (r : Bool) → ((k : ℕ) (b : Bool) → k < n → post k b → b ≡ p k) → SomePassing post n r → r ≡ any p (from n 0)
+  some_passes post n false same f = any_nowhere n n (omega arith) (λ k h. sym (same k false h (f k h)))
+  some_passes post n true same (k, l, t, f) = any_here n k l (sym (same k true l t))
 
   -- something is found where the test passes somewhere
   pub lowest-any : (n : ℕ) → ltb (lowest p n) n ≡ any p (from n 0)

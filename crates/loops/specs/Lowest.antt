@@ -17,3 +17,8 @@ Finds p n (Some k) = (k < n) × (k ≡ lowest p n)
 abbrev pub FirstPassing : (ℕ → Bool → Type 0) → ℕ → Option ℕ → Type 0
 FirstPassing post n None = (k : ℕ) → k < n → post k false
 FirstPassing post n (Some k) = (k < n) × post k true × ((j : ℕ) → j < k → post j false)
+
+-- the calls up to the first that says true, of those for all numbers below n
+abbrev pub SomePassing : (ℕ → Bool → Type 0) → ℕ → Bool → Type 0
+SomePassing post n false = (k : ℕ) → k < n → post k false
+SomePassing post n true = (k : ℕ) × (k < n) × post k true × ((j : ℕ) → j < k → post j false)

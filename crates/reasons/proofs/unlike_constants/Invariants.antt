@@ -5,4 +5,4 @@ use Rattle.reasons.specs.Reasons.{unlike_at}
 use Rattle.reasons.proofs.unlike_constants.Given as goal
 
 abbrev pub invariant-loop-k : goal.invariant-loop-k
-invariant-loop-k l = l.found ≡ lowest (unlike_at l.constants l.values l.classes l.k) 96
+invariant-loop-k l = l.found ≡ lowest (unlike_at l.constants.sorts l.constants.values l.state.classes l.k) 96
