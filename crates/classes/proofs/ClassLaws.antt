@@ -10,8 +10,8 @@ use lib.ListN.{length, get_or, set}
 use borrow.Author.Tests.{eq-eqb, ne_eqb}
 use native.Mathlib.Numerals.{add-one}
 use Rattle.laws.proofs.InPlace.{front-all, front_at, front-next, map_front}
-use Rattle.guard.specs.Closure.{Fact, Fact.same, Fact.within, State, add, class_of, holds, merge, merge_unless, rename}
-use Rattle.classes.specs.Held.{Held, state}
+use Rattle.guard.specs.Closure.{Fact.same, State, add, class_of, holds, merge, merge_unless, rename}
+use Rattle.classes.specs.Held.{Held}
 
 module _ (low high : ℕ) where
   abbrev renamed : ℕ → ℕ

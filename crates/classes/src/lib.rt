@@ -6,6 +6,7 @@ ghost use Rattle.std.specs.Prelude.{◌≡◌, not, ◌<◌, min, max, length, g
 ghost use Rattle.std.specs.Int.Bits.{bit_and};
 ghost use Rattle.guard.specs.Closure.{Fact.same, Fact.within, add, class_of, holds, label_of, rename, same_class};
 ghost use Rattle.guard.proofs.ClosureEnds.{first};
+ghost use Rattle.classes.specs.Held.{Held};
 
 use std::marker::Model;
 
@@ -60,6 +61,13 @@ fn merge(classes: &mut [u8; 96], labels: &mut [u16; 96], c: u8, d: u8)
 }
 
 impl State {
+    // No code: where a caller's proof needs it, it learns here that each class is a term.
+    pub fn held(&self)
+        ensures { Held self.now.classes }
+    {
+        let _ = &self.classes;
+    }
+
     // Each term in a class of its own, its label not cut down yet.
     pub fn first() -> State
         ensures { result ≡ first 96 }
