@@ -2,146 +2,100 @@
 #![tactic(auto)]
 
 ghost use Rattle.std.specs.Prelude.{◌≡◌, false, ◌+◌, ◌<◌};
-ghost use Rattle.classes.specs.Held.{Held, state};
 ghost use Rattle.passes.specs.Pass.{Pass};
-ghost use Rattle.arrays.specs.Slots.{ShapesFit};
 ghost use Rattle.congruence.specs.Due.{shape_due, shapes_due};
-ghost use Rattle.keys.specs.Keys.{Keyed, Quiet, owner_key, parts_key};
+ghost use Rattle.keys.specs.Keys.{AllThere, Keyed, PartsThere, Quiet, owner_key, parts_key};
 
-use slots::{active, kind, owner, part};
+use classes::State;
+use slots::Shapes;
 
 // The kind and the classes of all parts as one number.
-fn parts_key(classes: &[u8; 96], labels: &[u16; 96], shapes: &[u16; 256], k: usize) -> u32
-    requires k_bound { k < 30 }
-    requires held { Held classes.now }
-    requires shapes_fit { ShapesFit shapes.now }
-    ensures { result ≡ parts_key shapes.now (state classes.now labels.now) k }
+fn parts_key(state: &State, shapes: &Shapes, k: usize) -> u32
+    requires { k < 30 }
+    ensures value { result ≡ parts_key shapes.now.slots state.now k }
+    ensures there { PartsThere shapes.now.slots state.now k }
 {
-    let first = classes::class_of(classes, part(shapes, k, 0)) as u32;
-    let second = classes::class_of(classes, part(shapes, k, 1)) as u32;
-    let third = classes::class_of(classes, part(shapes, k, 2)) as u32;
-    16777216 * ((kind(shapes, k) % 256) as u32) + 65536 * first + 256 * second + third
+    let first = state.class_of(shapes.part(k, 0)) as u32;
+    let second = state.class_of(shapes.part(k, 1)) as u32;
+    let third = state.class_of(shapes.part(k, 2)) as u32;
+    16777216 * ((shapes.kind(k) % 256) as u32) + 65536 * first + 256 * second + third
 }
 
 // The kind and the class of the term, and 1 more.
-fn owner_key(classes: &[u8; 96], labels: &[u16; 96], shapes: &[u16; 256], k: usize) -> u32
-    requires k_bound { k < 30 }
-    requires held { Held classes.now }
-    requires shapes_fit { ShapesFit shapes.now }
-    ensures { result ≡ owner_key shapes.now (state classes.now labels.now) k }
-{
-    let class = classes::class_of(classes, owner(shapes, k)) as u32;
-    256 * ((kind(shapes, k) % 256) as u32) + class + 1
-}
-
-// The keys of shape `k`, if it is active.
-fn key_shape(
-    classes: &[u8; 96],
-    labels: &[u16; 96],
-    shapes: &[u16; 256],
-    parts: &mut [u32; 30],
-    owners: &mut [u32; 30],
-    k: usize,
-)
-    requires k_bound { k < 30 }
-    requires held { Held classes.now }
-    requires shapes_fit { ShapesFit shapes.now }
-    requires keyed { Keyed shapes.now (state classes.now labels.now) k parts.old owners.old }
-    ensures { Keyed shapes.now (state classes.now labels.now) (k + 1) parts.new owners.new }
-{
-    if active(classes, labels, shapes, k) {
-        parts[k] = parts_key(classes, labels, shapes, k);
-        owners[k] = owner_key(classes, labels, shapes, k);
-    }
-}
-
-fn key_shapes(
-    classes: &[u8; 96],
-    labels: &[u16; 96],
-    shapes: &[u16; 256],
-    parts: &mut [u32; 30],
-    owners: &mut [u32; 30],
-)
-    requires held { Held classes.now }
-    requires shapes_fit { ShapesFit shapes.now }
-    requires keyed { Keyed shapes.now (state classes.now labels.now) 0 parts.old owners.old }
-    ensures { Keyed shapes.now (state classes.now labels.now) 30 parts.new owners.new }
-{
-    for k in 0..30 {
-        key_shape(classes, labels, shapes, parts, owners, k);
-    }
-}
-
-// Whether shape `k` and one before it agree in one key and not in the other. All are compared, without a way out, so
-// that the compiler can do several at once.
-fn differs(parts: &[u32; 30], owners: &[u32; 30], k: usize) -> bool
+fn owner_key(state: &State, shapes: &Shapes, k: usize) -> u32
     requires { k < 30 }
-    ensures { result ≡ false → Quiet parts.now owners.now k }
+    ensures { result ≡ owner_key shapes.now.slots state.now k }
 {
-    let owner = owners[k];
-    if owner == 0 {
-        return false;
+    let class = state.class_of(shapes.owner(k)) as u32;
+    256 * ((shapes.kind(k) % 256) as u32) + class + 1
+}
+
+// The two keys of each shape; an owner's is 0 where the shape is not active.
+#[derive(Clone, Copy)]
+struct Keys {
+    parts: [u32; 30],
+    owners: [u32; 30],
+}
+
+impl Keys {
+    fn of(state: &State, shapes: &Shapes) -> Keys
+        ensures keyed { Keyed shapes.now.slots state.now 30 result.parts result.owners }
+        ensures there { AllThere shapes.now.slots state.now 30 }
+    {
+        let mut keys = Keys {
+            parts: [0; 30],
+            owners: [0; 30],
+        };
+        for k in 0..30 {
+            if shapes.active(state, k) {
+                keys.parts[k] = parts_key(state, shapes, k);
+                keys.owners[k] = owner_key(state, shapes, k);
+            }
+        }
+        keys
     }
-    let part = parts[k];
-    let mut any = false;
-    for i in 0..k {
-        any |= (parts[i] == part) != (owners[i] == owner);
+
+    // Whether shape `k` and one before it agree in one key and not in the other. All are compared, without a way out, so
+    // that the compiler can do several at once.
+    fn differs(&self, k: usize) -> bool
+        requires { k < 30 }
+        ensures { result ≡ false → Quiet self.now.parts self.now.owners k }
+    {
+        let owner = self.owners[k];
+        if owner == 0 {
+            return false;
+        }
+        let part = self.parts[k];
+        let mut any = false;
+        for i in 0..k {
+            any |= (self.parts[i] == part) != (self.owners[i] == owner);
+        }
+        any
     }
-    any
 }
 
 // A shape and those before it, if the keys leave anything to do.
-fn pass_keyed(
-    classes: &mut [u8; 96],
-    labels: &mut [u16; 96],
-    shapes: &[u16; 256],
-    parts: &[u32; 30],
-    owners: &[u32; 30],
-    k: usize,
-) -> bool
+fn pass_keyed(state: &mut State, shapes: &Shapes, keys: &Keys, k: usize) -> bool
     requires k_bound { k < 30 }
-    requires held { Held classes.old }
-    requires shapes_fit { ShapesFit shapes.now }
-    requires keyed { Keyed shapes.now (state classes.old labels.old) 30 parts.now owners.now }
-    ensures pass { Pass (λ s. shape_due shapes.now s k) (state classes.old labels.old) (state classes.new labels.new) result }
-    ensures held_2 { Held classes.new }
+    requires keyed { Keyed shapes.now.slots state.old 30 keys.now.parts keys.now.owners }
+    requires there { AllThere shapes.now.slots state.old 30 }
+    ensures { Pass (λ s. shape_due shapes.now.slots s k) state.old state.new result }
 {
-    if !differs(parts, owners, k) {
+    if !keys.differs(k) {
         return false;
     }
-    congruence::pass_shape(classes, labels, shapes, k)
+    congruence::pass_shape(state, shapes, k)
 }
 
 // The shapes in turn, until one changes something: then the keys are no longer those of the state.
-fn pass_all_keyed(
-    classes: &mut [u8; 96],
-    labels: &mut [u16; 96],
-    shapes: &[u16; 256],
-    parts: &[u32; 30],
-    owners: &[u32; 30],
-) -> bool
-    requires held { Held classes.old }
-    requires shapes_fit { ShapesFit shapes.now }
-    requires keyed { Keyed shapes.now (state classes.old labels.old) 30 parts.now owners.now }
-    ensures pass { Pass (shapes_due shapes.now) (state classes.old labels.old) (state classes.new labels.new) result }
-    ensures held_2 { Held classes.new }
+pub fn pass_shapes(state: &mut State, shapes: &Shapes) -> bool
+    ensures { Pass (shapes_due shapes.now.slots) state.old state.new result }
 {
+    let keys = Keys::of(state, shapes);
     for k in 0..30 {
-        if pass_keyed(classes, labels, shapes, parts, owners, k) {
+        if pass_keyed(state, shapes, &keys, k) {
             return true;
         }
     }
     false
-}
-
-pub fn pass_shapes(classes: &mut [u8; 96], labels: &mut [u16; 96], shapes: &[u16; 256]) -> bool
-    requires held { Held classes.old }
-    requires shapes_fit { ShapesFit shapes.now }
-    ensures pass { Pass (shapes_due shapes.now) (state classes.old labels.old) (state classes.new labels.new) result }
-    ensures held_2 { Held classes.new }
-{
-    let mut parts = [0u32; 30];
-    let mut owners = [0u32; 30];
-    key_shapes(classes, labels, shapes, &mut parts, &mut owners);
-    pass_all_keyed(classes, labels, shapes, &parts, &owners)
 }

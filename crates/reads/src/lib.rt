@@ -2,41 +2,34 @@
 #![tactic(auto)]
 
 ghost use Rattle.std.specs.Prelude.{◌<◌};
-ghost use Rattle.classes.specs.Held.{Held, state};
 ghost use Rattle.passes.specs.Pass.{Pass};
-ghost use Rattle.arrays.specs.Slots.{ReadsFit};
 ghost use Rattle.reads.specs.Due.{default_due, defaults_due, read_due, reads_due, reads_meet};
 
-use slots::{read_bit, read_default, read_key, read_term, same_class};
+use classes::State;
+use slots::Reads;
 
 // ---- absent variants
 
 // A read of a variant that the label lacks is the default.
-fn join_default(classes: &mut [u8; 96], labels: &mut [u16; 96], reads: &[u16; 96], k: usize) -> bool
-    requires k_bound { k < 24 }
-    requires held { Held classes.old }
-    requires reads_fit_lem { ReadsFit reads.now }
-    ensures pass { Pass (λ s. default_due reads.now s k) (state classes.old labels.old) (state classes.new labels.new) result }
-    ensures held_2 { Held classes.new }
+fn join_default(state: &mut State, reads: &Reads, k: usize) -> bool
+    requires { k < 24 }
+    ensures { Pass (λ s. default_due reads.now.slots s k) state.old state.new result }
 {
-    if read_key(reads, k) == 0 {
+    if reads.key(k) == 0 {
         return false;
     }
-    if classes::label_of(classes, labels, read_term(reads, k)) & read_bit(reads, k) != 0 {
+    if state.label_of(reads.term(k)) & reads.bit(k) != 0 {
         return false;
     }
-    classes::unite(classes, labels, k as u8, read_default(reads, k))
+    state.unite(k as u8, reads.default(k))
 }
 
-pub fn pass_defaults(classes: &mut [u8; 96], labels: &mut [u16; 96], reads: &[u16; 96]) -> bool
-    requires held { Held classes.old }
-    requires reads_fit_lem { ReadsFit reads.now }
-    ensures pass { Pass (defaults_due reads.now) (state classes.old labels.old) (state classes.new labels.new) result }
-    ensures held_2 { Held classes.new }
+pub fn pass_defaults(state: &mut State, reads: &Reads) -> bool
+    ensures { Pass (defaults_due reads.now.slots) state.old state.new result }
 {
     let mut changed = false;
     for k in 0..24 {
-        changed |= join_default(classes, labels, reads, k);
+        changed |= join_default(state, reads, k);
     }
     changed
 }
@@ -44,55 +37,40 @@ pub fn pass_defaults(classes: &mut [u8; 96], labels: &mut [u16; 96], reads: &[u1
 // ---- two reads
 
 // Reads of the same field of equal terms become equal.
-fn meet_reads(
-    classes: &mut [u8; 96],
-    labels: &mut [u16; 96],
-    reads: &[u16; 96],
-    k: usize,
-    i: usize,
-) -> bool
-    requires k_bound { (k < 24) × (i < 24) }
-    requires held { Held classes.old }
-    requires reads_fit_lem { ReadsFit reads.now }
-    ensures pass { Pass (λ s. reads_meet reads.now s k i) (state classes.old labels.old) (state classes.new labels.new) result }
-    ensures held_2 { Held classes.new }
+fn meet_reads(state: &mut State, reads: &Reads, k: usize, i: usize) -> bool
+    requires { (k < 24) × (i < 24) }
+    ensures { Pass (λ s. reads_meet reads.now.slots s k i) state.old state.new result }
 {
-    if read_key(reads, k) == 0 {
+    if reads.key(k) == 0 {
         return false;
     }
-    if read_key(reads, k) != read_key(reads, i) {
+    if reads.key(k) != reads.key(i) {
         return false;
     }
-    if !same_class(classes, labels, read_term(reads, i), read_term(reads, k)) {
+    if !state.same_class(reads.term(i), reads.term(k)) {
         return false;
     }
-    classes::unite(classes, labels, i as u8, k as u8)
+    state.unite(i as u8, k as u8)
 }
 
 // A read and those before it.
-fn pass_read(classes: &mut [u8; 96], labels: &mut [u16; 96], reads: &[u16; 96], k: usize) -> bool
-    requires k_bound { k < 24 }
-    requires held { Held classes.old }
-    requires reads_fit_lem { ReadsFit reads.now }
-    ensures pass { Pass (λ s. read_due reads.now s k) (state classes.old labels.old) (state classes.new labels.new) result }
-    ensures held_2 { Held classes.new }
+fn pass_read(state: &mut State, reads: &Reads, k: usize) -> bool
+    requires { k < 24 }
+    ensures { Pass (λ s. read_due reads.now.slots s k) state.old state.new result }
 {
     let mut changed = false;
     for i in 0..k {
-        changed |= meet_reads(classes, labels, reads, k, i);
+        changed |= meet_reads(state, reads, k, i);
     }
     changed
 }
 
-pub fn pass_reads(classes: &mut [u8; 96], labels: &mut [u16; 96], reads: &[u16; 96]) -> bool
-    requires held { Held classes.old }
-    requires reads_fit_lem { ReadsFit reads.now }
-    ensures pass { Pass (reads_due reads.now) (state classes.old labels.old) (state classes.new labels.new) result }
-    ensures held_2 { Held classes.new }
+pub fn pass_reads(state: &mut State, reads: &Reads) -> bool
+    ensures { Pass (reads_due reads.now.slots) state.old state.new result }
 {
     let mut changed = false;
     for k in 0..24 {
-        changed |= pass_read(classes, labels, reads, k);
+        changed |= pass_read(state, reads, k);
     }
     changed
 }

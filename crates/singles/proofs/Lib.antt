@@ -1,3 +1,2 @@
 pub mod Singles
 pub mod SinglesFollow
-pub mod StopLaws

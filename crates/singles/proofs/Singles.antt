@@ -23,9 +23,10 @@ use Rattle.passes.specs.Pass.{Pass, Steps, Steps.done, Steps.then}
 use Rattle.passes.proofs.PassLaws.{steps_le}
 use Rattle.arrays.specs.Slots.{fieldless_at, only_is, sort_at}
 use Rattle.arrays.proofs.DueLaws.{mem_when}
-use Rattle.labelled.specs.Covers.{has_mask}
+use Rattle.labelled.specs.Covers.{Covers, has_mask}
+use Rattle.labelled.proofs.Covering.{Behind, behind_next, behind_none, none_to_end, none_to_next}
 use Rattle.singles.specs.Due.{single_due, singles_due, singles_for, singles_of}
-use Rattle.singles.specs.Entered.{Advance, AllSeen, Before, Entered, NeverAlone, SeenFit, TermOrStop, place_of, seen_at, unseen}
+use Rattle.singles.specs.Entered.{Advance, AllSeen, Before, Entered, NeverAlone, SeenFit, place_of, seen_at, unseen}
 
 -- ---- places
 
@@ -321,12 +322,8 @@ module _ (sorts fieldless : List ℕ) (s : State) (seen : List ℕ) (x : ℕ) wh
 
 -- a term that is never of a variant alone has nothing to do
 module _ (sorts fieldless : List ℕ) (s : State) (seen : List ℕ) (x : ℕ) where
-  pub passed_over : NeverAlone sorts fieldless s x → Advance sorts fieldless s seen x 0 s seen (x + 1) 0 false
+  passed_over : NeverAlone sorts fieldless s x → Advance sorts fieldless s seen x 0 s seen (x + 1) 0 false
   passed_over n = end_term sorts fieldless s seen x 0 s seen false (λ u l h. n u h) (begin-term sorts fieldless s seen x 0 (λ u h. absurd (omega arith)))
-
-  module _ (full : List ℕ) (stop : Bool) where
-    pub term_over : NeverAlone sorts fieldless s x → TermOrStop sorts full fieldless stop s seen x s seen 0
-    term_over n = record { code = omega arith; passed = λ _. passed_over n; stopped = λ e. absurd (omega (arith, e)) }
 
 -- ---- the whole pass
 
@@ -343,7 +340,7 @@ none-fieldless sorts fieldless s x v e =
 
 -- terms that are left out, since their types have no fieldless variant
 module _ (sorts fieldless : List ℕ) (x x' : ℕ) (further : x ≤ x') where
-  pub left_out : ((y : ℕ) → x ≤ y → y < x' → has_mask sorts fieldless y ≡ false) → (s s' : State) (seen : List ℕ) (changed : Bool)
+  left_out : ((y : ℕ) → x ≤ y → y < x' → has_mask sorts fieldless y ≡ false) → (s s' : State) (seen : List ℕ) (changed : Bool)
       → Entered sorts fieldless s s' seen x 0 changed → Entered sorts fieldless s s' seen x' 0 changed
   left_out no_mask s s' seen changed e =
       record { steps = e.steps; falls = e.falls; quiet = λ c. let (q, a) = e.quiet c in (q, record { met = λ y u hu b o. a.met y u hu (earlier y u b o) o; only = a.only }) }
@@ -354,7 +351,7 @@ module _ (sorts fieldless : List ℕ) (x x' : ℕ) (further : x ≤ x') where
           by_test (ltb y x) (λ t. inl (ltb-true y x t)) (λ t. absurd (false≢true (sym (none-fieldless sorts fieldless s y u (no_mask y (ltb-false y x t) h)) ∙ o)))
 
 module _ (sorts fieldless : List ℕ) (s : State) where
-  pub none-met : Entered sorts fieldless s s (replicate 112 unseen) 0 0 false
+  none-met : Entered sorts fieldless s s (replicate 112 unseen) 0 0 false
   none-met =
       record {
         steps = done;
@@ -369,15 +366,15 @@ module _ (sorts fieldless : List ℕ) (s : State) where
       free : (w : ℕ) → seen_at (replicate 112 unseen) w ≡ unseen
       free w = get_d_same_default 112 w
 
-  pub fit_none : SeenFit sorts (replicate 112 unseen) 0 0
+  fit_none : SeenFit sorts (replicate 112 unseen) 0 0
   fit_none = record { long = length-replicate 112 unseen; at = λ w n. absurd (n (get_d_same_default 112 w)) }
 
-  pub next-term : (x : ℕ) (s' s'' : State) (seen' seen'' : List ℕ) (a b : Bool) → Entered sorts fieldless s s' seen' x 0 a
+  next-term : (x : ℕ) (s' s'' : State) (seen' seen'' : List ℕ) (a b : Bool) → Entered sorts fieldless s s' seen' x 0 a
       → Advance sorts fieldless s' seen' x 0 s'' seen'' (x + 1) 0 b → Entered sorts fieldless s s'' seen'' (x + 1) 0 (a || b)
   unfolding Advance
   next-term x s' s'' seen' seen'' a b e p = p s a e
 
-  pub all-met : (x : ℕ) {s' : State} {seen : List ℕ} (r : Bool) → 78 ≤ x → Entered sorts fieldless s s' seen x 0 r → Pass (singles_due sorts fieldless) s s' r
+  all-met : (x : ℕ) {s' : State} {seen : List ℕ} (r : Bool) → 78 ≤ x → Entered sorts fieldless s s' seen x 0 r → Pass (singles_due sorts fieldless) s s' r
   unfolding singles_due singles_of singles_for single_due
   all-met x {seen = seen} r h e =
       record {
@@ -400,3 +397,40 @@ module _ (sorts fieldless : List ℕ) (s : State) where
           let ek = (a.met k v (omega arith) (inl (omega arith)) (and_left (only_is sorts fieldless s k v) _ to)).1 in
           let ey = (a.met y v (omega arith) (inl (omega arith)) (and_right (only_is sorts fieldless s k v) _ to)).1 in
           eq-eqb _ _ (sym ey ∙ ap (λ (z : ℕ). class_of s (seen_at seen (16 * z + v))) ts ∙ ek)
+
+-- ---- along the terms of a list that leaves out none whose type has a fieldless variant
+
+further : (sorts seen : List ℕ) (x x' : ℕ) → x ≤ x' → SeenFit sorts seen x 0 → SeenFit sorts seen x' 0
+further sorts seen x x' h f = record { long = f.long; at = λ w n. let (b, e) = f.at w n in (inl (earlier (seen_at seen w) (w % 16) b), e) }
+  where
+    earlier : (y u : ℕ) → Before x 0 y u → y < x'
+    earlier y u (inl l) = omega arith
+    earlier y u (inr (e, l)) = absurd (omega (arith, l))
+
+module _ (sorts fieldless list : List ℕ) (s : State) where
+  -- up to one behind those of the list so far
+  abbrev pub Listed : State → List ℕ → ℕ → Bool → Type 0
+  Listed s' seen i changed = (x : ℕ) × (x ≤ 78) × Behind list (length list) i x × Entered sorts fieldless s s' seen x 0 changed × SeenFit sorts seen x 0
+
+  pub listed_none : Listed s (replicate 112 unseen) 0 false
+  listed_none = (0, omega arith, behind_none list (length list), none-met sorts fieldless s, fit_none sorts fieldless s)
+
+  module _ (cover : Covers (has_mask sorts fieldless) 78 list (length list)) (s' : State) (seen : List ℕ) (i : ℕ) (changed : Bool) (l : Listed s' seen i changed) where
+    module _ (h : i < length list) where
+      here : Entered sorts fieldless s s' seen (get_or list i 0) 0 changed
+      here = left_out sorts fieldless l.0 (get_or list i 0) (l.2.before i (omega arith) h) (none_to_next (has_mask sorts fieldless) 78 list (length list) cover i l.0 h l.2) s s' seen changed l.3
+
+      pub listed_next : (s'' : State) (seen' : List ℕ) (r : Bool) → Advance sorts fieldless s' seen (get_or list i 0) 0 s'' seen' (get_or list i 0 + 1) 0 r → SeenFit sorts seen' (get_or list i 0 + 1) 0
+          → Listed s'' seen' (i + 1) (changed || r)
+      listed_next s'' seen' r p f =
+          (get_or list i 0 + 1, omega (arith, cover.below i h), behind_next (has_mask sorts fieldless) 78 list (length list) cover i h, next-term sorts fieldless s (get_or list i 0) s' s'' seen seen' changed r here p, f)
+
+      pub listed_over : NeverAlone sorts fieldless s' (get_or list i 0) → Listed s' seen (i + 1) changed
+      listed_over n =
+          subst (Listed s' seen (i + 1)) (or_none_lem changed)
+          (listed_next s' seen false (passed_over sorts fieldless s' seen (get_or list i 0) n) (further sorts seen l.0 (get_or list i 0 + 1) (omega (arith, l.2.before i (omega arith) h)) l.4))
+
+    pub listed_all : length list ≤ i → Pass (singles_due sorts fieldless) s s' changed
+    listed_all h =
+        all-met sorts fieldless s 78 changed (omega arith)
+        (left_out sorts fieldless l.0 78 l.1 (none_to_end (has_mask sorts fieldless) 78 list (length list) cover i l.0 h l.2) s s' seen changed l.3)

@@ -1,14 +1,13 @@
 -- What terms of one fieldless variant give at a state, by the problem's arrays. proofs/ shows that this is what the rule of document 01
 -- gives for the guard. Assumes nothing: definitions.
-use Rattle.std.specs.Prelude.{◌≡◌, Bool, true, ◌&&◌, List, [], ◌∷◌, ℕ, ◌≤◌, ◌<◌, eqb}
+use Rattle.std.specs.Prelude.{◌≡◌, Bool, true, ◌&&◌, List, [], ◌∷◌, ℕ, ◌<◌, eqb, Result, Ok, Err}
+use Rattle.std.specs.Borrow.{Bor}
 use Rattle.laws.specs.Lists.{concat_map, from, when}
-use Rattle.laws.specs.All.{All}
-use Rattle.guard.specs.Closure.{Fact, Fact.same, State, holds, size}
+use Rattle.guard.specs.Closure.{Fact, Fact.same, State}
 use Rattle.guard.specs.Limits.{variant_limit}
-use Rattle.loops.specs.Lowest.{lowest}
-use Rattle.passes.specs.Pass.{Due, Steps}
+use Rattle.passes.specs.Pass.{Due, Pass, Steps}
 use Rattle.arrays.specs.Slots.{only_is, sort_at}
-use Rattle.reasons.specs.Reasons.{empty_at}
+use Rattle.singles.specs.declared.StoppedAt.{StoppedAt}
 
 module _ (sorts fieldless : List ℕ) (s : State) where
   -- "terms of a type whose labels are the same one fieldless variant are equal"
@@ -26,11 +25,13 @@ module _ (sorts fieldless : List ℕ) (s : State) where
 
 -- ---- a pass that may stop
 
--- From `s` to `s'`, with 0, 1 or 2: a pass where nothing changed, one where something did, and one that was asked to stop at an empty
--- label and met one.
-pub record PassOrStop (due : Due) (sorts full : List ℕ) (stop : Bool) (s s' : State) (r : ℕ) : Type 0 where
-  pub code : r ≤ 2
-  pub steps : Steps due s s'
-  pub falls : r ≡ 1 → size s' < size s
-  pub quiet : r ≡ 0 → (s' ≡ s) × All (λ f. holds s f ≡ true) (due s)
-  pub stopped : r ≡ 2 → (stop ≡ true) × (lowest (empty_at sorts full s') 78 < 78)
+-- From `s` to `s'`: the whole pass, with whether anything changed; or a part of it, and a term at which it is to stop there.
+abbrev pub PassOrStop : Due → (State → ℕ → Type 0) → State → State → Result Bool StoppedAt → Type 0
+PassOrStop due stops s s' (Ok changed) = Pass due s s' changed
+PassOrStop due stops s s' (Err at) = Steps due s s' × (at.term < 78) × stops s' at.term
+
+-- a call says that the pass stops
+pub record StopsBy (post : Bor State → ℕ → Bool → Type 0) (s : State) (x : ℕ) : Type 0 where
+  pub shown : Bor State
+  pub shows : shown.now ≡ s
+  pub says : post shown x true

@@ -1,11 +1,10 @@
 -- The pass over terms of one fieldless variant keeps, for each variant, the first such term that it met. How far it has
 -- come is a term and a variant. Assumes nothing: definitions.
-use Rattle.std.specs.Prelude.{◌≡◌, Bool, true, false, ◌&&◌, ◌||◌, List, ◌⊎◌, ℕ, ◌+◌, ◌*◌, ◌/◌, ◌%◌, ◌≤◌, ◌<◌, eqb, length, get_or}
+use Rattle.std.specs.Prelude.{◌≡◌, Bool, true, false, ◌||◌, List, ◌⊎◌, ℕ, ◌+◌, ◌*◌, ◌/◌, ◌%◌, ◌<◌, length, get_or}
 use Rattle.guard.specs.Closure.{SameAt, State, size}
 use Rattle.guard.specs.Limits.{variant_limit}
 use Rattle.passes.specs.Pass.{Steps}
 use Rattle.arrays.specs.Slots.{only_is, sort_at}
-use Rattle.reasons.specs.Reasons.{empty_at}
 use Rattle.singles.specs.Due.{singles_due}
 
 -- the place of a term's variant in the table, and what stands for none
@@ -47,9 +46,3 @@ module _ (sorts fieldless : List ℕ) where
 -- a term that is of no fieldless variant alone
 abbrev pub NeverAlone : List ℕ → List ℕ → State → ℕ → Type 0
 NeverAlone sorts fieldless s x = (u : ℕ) → u < variant_limit → only_is sorts fieldless s x u ≡ false
-
--- a term in the pass, with 0, 1 or 2: nothing changed, something did, or the pass stops at its empty label
-pub record TermOrStop (sorts full fieldless : List ℕ) (stop : Bool) (s : State) (seen : List ℕ) (x : ℕ) (s' : State) (seen' : List ℕ) (r : ℕ) : Type 0 where
-  pub code : r ≤ 2
-  pub passed : ¬ (r ≡ 2) → Advance sorts fieldless s seen x 0 s' seen' (x + 1) 0 (eqb r 1)
-  pub stopped : r ≡ 2 → (s' ≡ s) × ((stop && empty_at sorts full s x) ≡ true)

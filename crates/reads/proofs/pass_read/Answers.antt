@@ -5,14 +5,11 @@ use Rattle.reads.specs.Due.{read_due, reads_meet}
 use Rattle.reads.proofs.pass_read.Goals as goal
 
 pub loop-i-init : goal.loop-i-init
-loop-i-init c = record { held = c.requires.held; pass = none_yet (λ j x. reads_meet c.args.reads.now x c.args.k j) _ }
+loop-i-init c = none_yet (λ j x. reads_meet c.args.reads.now.slots x c.args.k j) _
 
 pub loop-i-preserved : goal.loop-i-preserved
-loop-i-preserved c = record {
-  held = c.meet_reads-changed.ensures.held_2;
-  pass = one_more_or (λ j x. reads_meet c.args.reads.now x c.args.k j) c.loop-i.i _ _ c.loop-i.invariant.pass c.meet_reads-changed.ensures.pass;
-}
+loop-i-preserved c = one_more_or (λ j x. reads_meet c.args.reads.now.slots x c.args.k j) c.loop-i.i _ _ c.loop-i.invariant c.meet_reads-changed.ensures
 
-pub returns-clause-pass : goal.returns-clause-pass
+pub returns : goal.returns
 unfolding read_due
-returns-clause-pass c = all_done (λ j x. reads_meet c.args.reads.now x c.args.k j) c.loop-i.i c.args.k (omega arith) (omega arith) c.loop-i.invariant.pass
+returns c = all_done (λ j x. reads_meet c.args.reads.now.slots x c.args.k j) c.loop-i.i c.args.k (omega arith) (omega arith) c.loop-i.invariant

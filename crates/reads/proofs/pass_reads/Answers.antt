@@ -5,14 +5,11 @@ use Rattle.reads.specs.Due.{read_due, reads_due}
 use Rattle.reads.proofs.pass_reads.Goals as goal
 
 pub loop-k-init : goal.loop-k-init
-loop-k-init c = record { held = c.requires.held; pass = none_yet (λ j x. read_due c.args.reads.now x j) _ }
+loop-k-init c = none_yet (λ j x. read_due c.args.reads.now.slots x j) _
 
 pub loop-k-preserved : goal.loop-k-preserved
-loop-k-preserved c = record {
-  held = c.pass_read-changed.ensures.held_2;
-  pass = one_more_or (λ j x. read_due c.args.reads.now x j) c.loop-k.k _ _ c.loop-k.invariant.pass c.pass_read-changed.ensures.pass;
-}
+loop-k-preserved c = one_more_or (λ j x. read_due c.args.reads.now.slots x j) c.loop-k.k _ _ c.loop-k.invariant c.pass_read-changed.ensures
 
-pub returns-clause-pass : goal.returns-clause-pass
+pub returns : goal.returns
 unfolding reads_due
-returns-clause-pass c = all_done (λ j x. read_due c.args.reads.now x j) c.loop-k.k 24 (omega arith) (omega arith) c.loop-k.invariant.pass
+returns c = all_done (λ j x. read_due c.args.reads.now.slots x j) c.loop-k.k 24 (omega arith) (omega arith) c.loop-k.invariant
