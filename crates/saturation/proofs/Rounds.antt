@@ -1,23 +1,21 @@
 -- The families one after the other, until one changes something; and such rounds until none does. Assumes nothing.
-use mathlib.Core.Path.{◌≡◌, refl, sym, subst}
+use mathlib.Core.Path.{◌≡◌, refl, sym, ◌∙◌, subst}
 use mathlib.Core.Bool.{Bool, true, false, false≢true}
 use mathlib.Core.List.Memᴰ
 use mathlib.Core.List.{List, ◌++◌}
 use Prim.Native.Nat.{ℕ, ◌<◌}
 use native.Mathlib.Omega.{arith}
-use lib.Dec.{eqb}
-use borrow.Author.Tests.{eqb-false, eqb-true}
-use Rattle.std.specs.Int.{from_bool}
+use borrow.Author.Tests.{ltb-true}
+use Rattle.std.specs.Borrow.{Bor}
 use Rattle.laws.specs.All.{All}
-use Rattle.laws.proofs.Bools.{by_test}
-use Rattle.guard.specs.Closure.{State, holds, size}
+use Rattle.guard.specs.Closure.{State, holds}
 use Rattle.passes.specs.Pass.{Due, Pass, Saturated, Steps}
 use Rattle.passes.proofs.PassLaws.{second-tells, steps-more, steps_on}
 use Rattle.congruence.specs.Due.{shapes_due}
 use Rattle.reads.specs.Due.{defaults_due, reads_due}
-use Rattle.singles.specs.Due.{PassOrStop, singles_due}
-use Rattle.singles.proofs.StopLaws.{changed_pass, told_pass}
+use Rattle.singles.specs.Due.{StopsBy, singles_due}
 use Rattle.loops.specs.Lowest.{lowest}
+use Rattle.loops.proofs.Loops.{any_here, lowest-any}
 use Rattle.reasons.specs.Reasons.{empty_at}
 use Rattle.saturation.specs.Due.{Settled, all_due}
 
@@ -33,64 +31,59 @@ module _ (shapes reads sorts fieldless : List ℕ) where
   abbrev three : Due
   three x = two x ++ shapes_due shapes x
 
-  pub by-defaults : (full : List ℕ) (stop : Bool) {s s₁ : State} (a : Bool) → Pass (defaults_due reads) s s₁ a → a ≡ true → PassOrStop (all_due shapes reads sorts fieldless) sorts full stop s s₁ 1
+  pub by-defaults : {s s₁ : State} (a : Bool) → Pass (defaults_due reads) s s₁ a → a ≡ true → Pass (all_due shapes reads sorts fieldless) s s₁ true
   unfolding all_due
-  by-defaults full stop a p e =
-      changed_pass sorts full stop true (changed_first (reads_due reads) refl (changed_first (shapes_due shapes) refl (changed_first (singles_due sorts fieldless) e p))) refl
+  by-defaults a p e = changed_first (reads_due reads) refl (changed_first (shapes_due shapes) refl (changed_first (singles_due sorts fieldless) e p))
 
-  module _ (full : List ℕ) (stop : Bool) {s s₁ s₂ : State} (a : Bool) (r : ℕ) (p : Pass (defaults_due reads) s s₁ a) (none : a ≡ false) (q : PassOrStop (singles_due sorts fieldless) sorts full stop s₁ s₂ r) where
-    pub by_singles : ¬ (r ≡ 0) → PassOrStop (all_due shapes reads sorts fieldless) sorts full stop s s₂ r
+  module _ {s s₁ s₂ : State} (a : Bool) (p : Pass (defaults_due reads) s s₁ a) (none : a ≡ false) where
+    -- the terms of one variant, as far as the pass over them comes
+    pub by_stop : Steps (singles_due sorts fieldless) s₁ s₂ → Steps (all_due shapes reads sorts fieldless) s s₂
     unfolding all_due
-    by_singles n =
-        let same-state : s₁ ≡ s = (p.quiet none).0 in
-        record {
-          code = q.code;
-          steps = steps-more
-              (λ x f m. Memᴰ.append_left (reads_due reads x) (Memᴰ.append_left (shapes_due shapes x) (Memᴰ.append_right (defaults_due reads x) m)))
-              (subst (λ (z : State). Steps (singles_due sorts fieldless) z s₂) same-state q.steps);
-          falls = λ e. subst (λ (z : State). size s₂ < size z) same-state (q.falls e);
-          quiet = λ e. absurd (n e);
-          stopped = q.stopped;
-        }
+    by_stop q =
+        steps-more (λ x f m. Memᴰ.append_left (reads_due reads x) (Memᴰ.append_left (shapes_due shapes x) (Memᴰ.append_right (defaults_due reads x) m)))
+        (subst (λ (z : State). Steps (singles_due sorts fieldless) z s₂) (p.quiet none).0 q)
 
-    -- the terms of one variant gave nothing new
-    module _ {s₃ : State} (c : Bool) (none' : r ≡ 0) (t : Pass (shapes_due shapes) s₂ s₃ c) where
-      quiet_singles : Pass (singles_due sorts fieldless) s₁ s₂ false
-      quiet_singles = record { steps = q.steps; falls = λ e. absurd (false≢true e); quiet = λ _. q.quiet none' }
-
-      all_three : Pass three s s₃ c
-      all_three = second-tells false c (second-tells a false p quiet_singles none) t refl
-
-      pub by-shapes : c ≡ true → PassOrStop (all_due shapes reads sorts fieldless) sorts full stop s s₃ 1
+    module _ (b : Bool) (q : Pass (singles_due sorts fieldless) s₁ s₂ b) where
+      pub by_singles : b ≡ true → Pass (all_due shapes reads sorts fieldless) s s₂ true
       unfolding all_due
-      by-shapes e = changed_pass sorts full stop true (changed_first (reads_due reads) e all_three) refl
+      by_singles e = changed_first (reads_due reads) refl (changed_first (shapes_due shapes) e (second-tells a b p q none))
 
-      pub by_reads : {s₄ : State} (d : Bool) → c ≡ false → Pass (reads_due reads) s₃ s₄ d → PassOrStop (all_due shapes reads sorts fieldless) sorts full stop s s₄ (from_bool d)
-      unfolding all_due
-      by_reads d none'' u = told_pass sorts full stop d (second-tells c d all_three u none'')
+      module _ {s₃ : State} (c : Bool) (none' : b ≡ false) (t : Pass (shapes_due shapes) s₂ s₃ c) where
+        all_three : Pass three s s₃ c
+        all_three = second-tells b c (second-tells a b p q none) t none'
+
+        pub by-shapes : c ≡ true → Pass (all_due shapes reads sorts fieldless) s s₃ true
+        unfolding all_due
+        by-shapes e = changed_first (reads_due reads) e all_three
+
+        pub by_reads : {s₄ : State} (d : Bool) → c ≡ false → Pass (reads_due reads) s₃ s₄ d → Pass (all_due shapes reads sorts fieldless) s s₄ d
+        unfolding all_due
+        by_reads d none'' u = second-tells c d all_three u none''
 
 -- ---- rounds
 
-module _ {due : Due} (sorts full : List ℕ) (stop : Bool) {s s' s'' : State} (r : ℕ) (p : Steps due s s') (q : PassOrStop due sorts full stop s' s'' r) where
-  pub steps_then : Steps due s s''
-  steps_then = steps_on p q.steps
+-- the last round changed nothing
+pub last_round : {due : Due} {s s' s'' : State} → Steps due s s' → Pass due s' s'' false → Saturated due s s''
+last_round {due = due} p q =
+    let (same-state, held) = q.quiet refl in
+    record { steps = steps_on p q.steps; quiet = subst (λ (z : State). All (λ f. holds z f ≡ true) (due z)) (sym same-state) held }
 
-  last_round : r ≡ 0 → Saturated due s s''
-  last_round e =
-      let (same-state, held) = q.quiet e in
-      record { steps = steps_then; quiet = subst (λ (z : State). All (λ f. holds z f ≡ true) (due z)) (sym same-state) held }
+module _ {shapes reads sorts full fieldless : List ℕ} where
+  -- without an empty label all that is due holds
+  pub saturated : {s s' : State} → Settled shapes reads sorts full fieldless s s' → lowest (empty_at sorts full s') 78 ≡ 78 → Saturated (all_due shapes reads sorts fieldless) s s'
+  saturated t e = record { steps = t.steps; quiet = t.quiet e }
 
--- a pass that was to stop, and isn't to be repeated, has changed nothing or met an empty label
-pub settled : (shapes reads sorts full fieldless : List ℕ) {s s' s'' : State} (r : ℕ) → Steps (all_due shapes reads sorts fieldless) s s'
-    → PassOrStop (all_due shapes reads sorts fieldless) sorts full true s' s'' r → ¬ (r ≡ 1) → Settled shapes reads sorts full fieldless s s''
-settled shapes reads sorts full fieldless r p q n =
-    record {
-      steps = steps_then sorts full true r p q;
-      quiet = λ e. by_test (eqb r 0) (λ b. (last_round sorts full true r p q (eqb-true r 0 b)).quiet)
-          (λ b. let two : r ≡ 2 = omega (arith, q.code, n, eqb-false r 0 b) in absurd (omega (arith, e, (q.stopped two).1)));
-    }
+  pub settled_quiet : {s s' s'' : State} → Steps (all_due shapes reads sorts fieldless) s s' → Pass (all_due shapes reads sorts fieldless) s' s'' false
+      → Settled shapes reads sorts full fieldless s s''
+  settled_quiet p q = let w = last_round p q in record { steps = w.steps; quiet = λ e. w.quiet }
 
--- without an empty label all that is due holds
-pub saturated : {shapes reads sorts full fieldless : List ℕ} {s s' : State} → Settled shapes reads sorts full fieldless s s' → lowest (empty_at sorts full s') 78 ≡ 78
-    → Saturated (all_due shapes reads sorts fieldless) s s'
-saturated t e = record { steps = t.steps; quiet = t.quiet e }
+  -- the last round came to a term at which a call says that it stops, as it does at empty labels
+  pub settled_empty : {s s' s'' : State} (post : Bor State → ℕ → Bool → Type 0) (x : ℕ) → ((r : Bor State) (b : Bool) → x < 78 → post r x b → b ≡ empty_at sorts full r.now x)
+      → Steps (all_due shapes reads sorts fieldless) s s' → Steps (all_due shapes reads sorts fieldless) s' s'' → x < 78 → StopsBy post s'' x → Settled shapes reads sorts full fieldless s s''
+  settled_empty {s'' = s''} post x same p q h t = record { steps = steps_on p q; quiet = λ e. absurd (omega (arith, e, low)) }
+    where
+      empty : empty_at sorts full s'' x ≡ true
+      empty = subst (λ (z : State). empty_at sorts full z x ≡ true) t.shows (sym (same t.shown true h t.says))
+
+      low : lowest (empty_at sorts full s'') 78 < 78
+      low = ltb-true _ 78 (lowest-any (empty_at sorts full s'') 78 ∙ sym (any_here (empty_at sorts full s'') 78 x h empty))

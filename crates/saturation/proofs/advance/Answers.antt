@@ -1,29 +1,21 @@
 -- `advance` meets its contract. Assumes nothing.
-use Rattle.saturation.proofs.Rounds.{by-defaults, by_reads, by-shapes, by_singles}
+use Rattle.std.proofs.lemmas.Result.{err_from_is_err_and}
+use Rattle.saturation.proofs.Rounds.{by-defaults, by_reads, by-shapes, by_singles, by_stop}
 use Rattle.saturation.proofs.advance.Goals as goal
 
-pub returns-then-pass_defaults-clause-pass_or_stop : goal.returns-then-pass_defaults-clause-pass_or_stop
-returns-then-pass_defaults-clause-pass_or_stop c = let a = c.args in
-    let d = c.pass_defaults in
-    by-defaults a.shapes.now a.reads.now a.sorts.now a.fieldless.now a.full.now a.stop d.result d.ensures.pass c.if-pass_defaults.true
+pub returns-then-pass_defaults : goal.returns-then-pass_defaults
+returns-then-pass_defaults g c = by-defaults _ _ _ _ _ c.pass_defaults.ensures c.if-pass_defaults.true
 
-pub returns-then-ended-ne0-clause-pass_or_stop : goal.returns-then-ended-ne0-clause-pass_or_stop
-returns-then-ended-ne0-clause-pass_or_stop c = let a = c.args in
-    let d = c.pass_defaults in
-    let s = c.pass_singles-ended in
-    by_singles a.shapes.now a.reads.now a.sorts.now a.fieldless.now a.full.now a.stop d.result s.result d.ensures.pass c.if-pass_defaults.false s.ensures.pass_or_stop c.if-ended-ne0.true
+pub returns-in_err-changed : goal.returns-in_err-changed
+returns-in_err-changed g c = let p = err_from_is_err_and c.from_residual.result c.from_residual.ensures.1 in
+    let e = c.in_err-changed.ensures in
+    rw (p.1, p.2) (by_stop _ _ _ _ {s₂ = c.pass_singles.new.state} _ c.pass_defaults.ensures c.if-pass_defaults.false e.0, e.1, e.2)
 
-pub returns-then-pass_shapes-clause-pass_or_stop : goal.returns-then-pass_shapes-clause-pass_or_stop
-returns-then-pass_shapes-clause-pass_or_stop c = let a = c.args in
-    let d = c.pass_defaults in
-    let s = c.pass_singles-ended in
-    let h = c.pass_shapes in
-    by-shapes a.shapes.now a.reads.now a.sorts.now a.fieldless.now a.full.now a.stop d.result s.result d.ensures.pass c.if-pass_defaults.false s.ensures.pass_or_stop h.result c.if-ended-ne0.false h.ensures.pass c.if-pass_shapes.true
+pub returns-then-changed : goal.returns-then-changed
+returns-then-changed g c = by_singles _ _ _ _ _ c.pass_defaults.ensures c.if-pass_defaults.false _ c.in_ok-changed.ensures c.if-changed.true
 
-pub returns-clause-pass_or_stop : goal.returns-clause-pass_or_stop
-returns-clause-pass_or_stop c = let a = c.args in
-    let d = c.pass_defaults in
-    let s = c.pass_singles-ended in
-    let h = c.pass_shapes in
-    let r = c.pass_reads in
-    rw c.from.ensures (by_reads a.shapes.now a.reads.now a.sorts.now a.fieldless.now a.full.now a.stop d.result s.result d.ensures.pass c.if-pass_defaults.false s.ensures.pass_or_stop h.result c.if-ended-ne0.false h.ensures.pass r.result c.if-pass_shapes.false r.ensures.pass)
+pub returns-then-pass_shapes : goal.returns-then-pass_shapes
+returns-then-pass_shapes g c = by-shapes _ _ _ _ _ c.pass_defaults.ensures c.if-pass_defaults.false _ c.in_ok-changed.ensures _ c.if-changed.false c.pass_shapes.ensures c.if-pass_shapes.true
+
+pub returns : goal.returns
+returns g c = by_reads _ _ _ _ _ c.pass_defaults.ensures c.if-pass_defaults.false _ c.in_ok-changed.ensures _ c.if-changed.false c.pass_shapes.ensures _ c.if-pass_shapes.false c.pass_reads.ensures

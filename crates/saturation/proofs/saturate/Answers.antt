@@ -1,18 +1,16 @@
--- `saturate` meets its contract. Invariant: what is due was added; the state falls with each round. Assumes nothing.
-use mathlib.Core.Bool.{true}
+-- `saturate` meets its contract. Assumes nothing.
+use Rattle.std.proofs.Common.{rules}
 use Rattle.passes.specs.Pass.{Steps.done}
-use Rattle.saturation.proofs.Rounds.{settled, steps_then}
+use Rattle.passes.proofs.PassLaws.{steps_on}
+use Rattle.saturation.proofs.Rounds.{settled_empty}
 use Rattle.saturation.proofs.saturate.Goals as goal
 
 pub loop-init : goal.loop-init
-loop-init c = record { held = c.requires.held; steps = done }
+loop-init c = done
 
 pub loop-preserved : goal.loop-preserved
-loop-preserved c = let a = c.args in
-    let v = c.advance in
-    record { held = v.ensures.held_2; steps = steps_then a.sorts.now a.full.now true v.result c.loop.invariant.steps v.ensures.pass_or_stop }
+loop-preserved c = steps_on c.loop.invariant c.in-Ok-true.ensures.steps
 
-pub returns-clause-settled : goal.returns-clause-settled
-returns-clause-settled c = let a = c.args in
-    let v = c.advance in
-    settled a.shapes.now a.reads.now a.sorts.now a.full.now a.fieldless.now v.result c.loop.invariant.steps v.ensures.pass_or_stop c.loop-test.false
+pub returns-in_default-2 : goal.returns-in_default-2
+returns-in_default-2 c = let e = c.in_default.ensures in
+    settled_empty _ _ (λ r b h p. search rules) c.loop.invariant e.0 e.1 e.2

@@ -1,13 +1,10 @@
--- `saturate_fully` meets its contract. Invariant: what is due was added; the state falls with each round. Assumes nothing.
-use mathlib.Core.Bool.{false}
+-- `saturate_fully` meets its contract. Assumes nothing.
 use Rattle.passes.specs.Pass.{Steps.done}
-use Rattle.saturation.proofs.Rounds.{steps_then}
+use Rattle.passes.proofs.PassLaws.{steps_on}
 use Rattle.saturation.proofs.saturate_fully.Goals as goal
 
 pub loop-init : goal.loop-init
-loop-init c = record { held = c.requires.held; steps = done }
+loop-init c = done
 
 pub loop-preserved : goal.loop-preserved
-loop-preserved c = let a = c.args in
-    let v = c.advance in
-    record { held = v.ensures.held_2; steps = steps_then a.sorts.now a.fieldless.now false v.result c.loop.invariant.steps v.ensures.pass_or_stop }
+loop-preserved c = steps_on c.loop.invariant c.in-Ok-true.ensures.steps
