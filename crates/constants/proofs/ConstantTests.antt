@@ -1,12 +1,26 @@
 -- What the tests of the code say of the term and the value of a constant. Assumes nothing.
-use mathlib.Core.Path.{◌≡◌, ap, sym}
-use mathlib.Core.Bool.{Bool, cond}
+use mathlib.Core.Path.{◌≡◌, ap, sym, ◌∙◌}
+use mathlib.Core.Bool.{Bool, cond, false≢true}
 use mathlib.Core.List.{List}
 use Prim.Native.Nat.{ℕ, ◌+◌, ◌≤◌, ◌<◌}
+use lib.Dec.{eqb}
 use lib.IntN.{ℤ, pos}
 use lib.ListN.{get_or}
-use borrow.Author.Tests.{le-ltb, lt-ltb}
+use mir.Facts.{to_z-of_z}
+use mir.Syntax.{w64}
+use mir.Val.{SFits, of_z, to_z}
+use borrow.Author.Tests.{eq-eqb, le-ltb, lt-ltb, ne_eqb}
+use Rattle.laws.proofs.Bools.{by_test}
+use Rattle.guard.specs.Closure.{eq_z}
+use Rattle.guard.proofs.ClosureBelow.{eq_z_true}
+use Rattle.guard.proofs.LeastClosure.{eq_z_of}
 use Rattle.constants.specs.Constants.{constant_term, constant_value}
+
+-- two values are equal if their bits are
+pub same_bits : (a b : ℤ) → SFits w64 a → SFits w64 b → eqb (of_z w64 a) (of_z w64 b) ≡ eq_z a b
+same_bits a b fa fb =
+    by_test (eq_z a b) (λ e. eq-eqb _ _ (ap (of_z w64) (eq_z_true a b e)) ∙ sym e)
+    (λ e. ne_eqb (of_z w64 a) (of_z w64 b) (λ q. false≢true (sym e ∙ eq_z_of a b (sym (to_z-of_z fa) ∙ ap (to_z w64) q ∙ to_z-of_z fb))) ∙ sym e)
 
 module _ (k : ℕ) where
   pub row-term : k < 24 → k ≡ constant_term k

@@ -12,6 +12,7 @@ use Rattle.laws.specs.Lists.{any, from}
 use Rattle.laws.proofs.Bools.{by_test, or_left, or_right}
 use Rattle.laws.proofs.Lists.{any_of, any_some, from_bounds, mem_from}
 use Rattle.laws.proofs.Positions.{least, least_first, least_le, least_most, least_passes}
+use Rattle.std.specs.Prelude.{is_some}
 use Rattle.std.specs.declared.option.Option.{Option}
 use Rattle.std.specs.declared.option.Option.TheVariants.{None, Some}
 use Rattle.loops.specs.Lowest.{Finds, FirstPassing, SomePassing, lowest}

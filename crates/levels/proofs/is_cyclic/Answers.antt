@@ -13,4 +13,4 @@ pub returns : goal.returns
 returns c = let a = c.args in
     let l = c.loop in
     let f = c.sink_all in
-    told a.shapes.now.slots a.state.now c.held.ensures l.levels l.invariant f.result c.is_bottomed.result c.loop-test.false f.ensures c.is_bottomed.ensures
+    told a.shapes.now.slots a.state.now c.held.ensures.held l.levels l.invariant f.result c.is_bottomed.result c.loop-test.false f.ensures c.is_bottomed.ensures
