@@ -23,7 +23,7 @@ fn is_above(state: &State, shapes: &Shapes, ranks: &[u8; 96], k: usize, p: usize
     rank_at(state, ranks, shapes.owner(k)) <= rank_at(state, ranks, shapes.part(k, p))
 }
 
-// Whether a part of shape k has.
+// Whether some part of shape k has.
 #[tactic(auto, using(loops::proofs::Loops::some_passes), unfolding(crate::specs::Ranks::part_above))]
 fn part_above(state: &State, shapes: &Shapes, ranks: &[u8; 96], k: usize) -> bool
     requires { k < 30 }
