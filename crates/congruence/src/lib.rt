@@ -17,17 +17,11 @@ fn alike(state: &State, shapes: &Shapes, k: usize, i: usize) -> bool
     shapes.kind(k) == shapes.kind(i) && shapes.active(state, k) && shapes.active(state, i)
 }
 
-#[tactic(auto, using(crate::proofs::Tests::parts_same))]
 fn same_parts(state: &State, shapes: &Shapes, k: usize, i: usize) -> bool
     requires { (k < 30) × (i < 30) }
     ensures { result ≡ same_parts shapes.now.slots state.now k i }
 {
-    for p in 0..shapes.many(k) {
-        if !state.same_class(shapes.part(i, p), shapes.part(k, p)) {
-            return false;
-        }
-    }
-    true
+    (0..shapes.many(k)).all(|p| state.same_class(shapes.part(i, p), shapes.part(k, p)))
 }
 
 // Equal terms built by one variant have equal parts.
@@ -37,9 +31,8 @@ fn join_parts(state: &mut State, shapes: &Shapes, k: usize, i: usize) -> bool
     requires i_value_2 { same_owners shapes.now.slots state.old k i ≡ true }
     ensures { Pass (λ s. parts_due shapes.now.slots s k i) state.old state.new result }
 {
-    let count = shapes.many(k);
     let mut changed = false;
-    for p in 0..count {
+    for p in 0..shapes.many(k) {
         changed |= state.unite(shapes.part(i, p), shapes.part(k, p));
     }
     changed

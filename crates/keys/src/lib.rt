@@ -31,28 +31,25 @@ fn owner_key(state: &State, shapes: &Shapes, k: usize) -> u32
 }
 
 // The two keys of each shape; an owner's is 0 where the shape is not active.
-#[derive(Clone, Copy)]
+#[derive(Drop)]
 struct Keys {
     parts: [u32; 30],
     owners: [u32; 30],
 }
 
 impl Keys {
-    fn of(state: &State, shapes: &Shapes) -> Keys
-        ensures keyed { Keyed shapes.now.slots state.now 30 result.parts result.owners }
+    // In place, since the compiler copies what a function makes and hands out.
+    fn fill(&mut self, state: &State, shapes: &Shapes)
+        requires { Keyed shapes.now.slots state.now 0 self.old.parts self.old.owners }
+        ensures keyed { Keyed shapes.now.slots state.now 30 self.new.parts self.new.owners }
         ensures there { AllThere shapes.now.slots state.now 30 }
     {
-        let mut keys = Keys {
-            parts: [0; 30],
-            owners: [0; 30],
-        };
         for k in 0..30 {
             if shapes.active(state, k) {
-                keys.parts[k] = parts_key(state, shapes, k);
-                keys.owners[k] = owner_key(state, shapes, k);
+                self.parts[k] = parts_key(state, shapes, k);
+                self.owners[k] = owner_key(state, shapes, k);
             }
         }
-        keys
     }
 
     // Whether shape `k` and one before it agree in one key and not in the other. All are compared, without a way out, so
@@ -91,7 +88,11 @@ fn pass_keyed(state: &mut State, shapes: &Shapes, keys: &Keys, k: usize) -> bool
 pub fn pass_shapes(state: &mut State, shapes: &Shapes) -> bool
     ensures { Pass (shapes_due shapes.now.slots) state.old state.new result }
 {
-    let keys = Keys::of(state, shapes);
+    let mut keys = Keys {
+        parts: [0; 30],
+        owners: [0; 30],
+    };
+    keys.fill(state, shapes);
     for k in 0..30 {
         if pass_keyed(state, shapes, &keys, k) {
             return true;

@@ -7,8 +7,7 @@ use Prim.Native.Nat.{ℕ, ◌<◌}
 use native.Mathlib.Omega.{arith}
 use borrow.Author.Tests.{ltb-true}
 use Rattle.std.specs.Borrow.{Bor}
-use Rattle.laws.specs.All.{All}
-use Rattle.guard.specs.Closure.{State, holds}
+use Rattle.guard.specs.Closure.{State}
 use Rattle.passes.specs.Pass.{Due, Pass, Saturated, Steps}
 use Rattle.passes.proofs.PassLaws.{second-tells, steps-more, steps_on}
 use Rattle.congruence.specs.Due.{shapes_due}
@@ -62,20 +61,10 @@ module _ (shapes reads sorts fieldless : List ℕ) where
 
 -- ---- rounds
 
--- the last round changed nothing
-pub last_round : {due : Due} {s s' s'' : State} → Steps due s s' → Pass due s' s'' false → Saturated due s s''
-last_round {due = due} p q =
-    let (same-state, held) = q.quiet refl in
-    record { steps = steps_on p q.steps; quiet = subst (λ (z : State). All (λ f. holds z f ≡ true) (due z)) (sym same-state) held }
-
 module _ {shapes reads sorts full fieldless : List ℕ} where
   -- without an empty label all that is due holds
   pub saturated : {s s' : State} → Settled shapes reads sorts full fieldless s s' → lowest (empty_at sorts full s') 78 ≡ 78 → Saturated (all_due shapes reads sorts fieldless) s s'
   saturated t e = record { steps = t.steps; quiet = t.quiet e }
-
-  pub settled_quiet : {s s' s'' : State} → Steps (all_due shapes reads sorts fieldless) s s' → Pass (all_due shapes reads sorts fieldless) s' s'' false
-      → Settled shapes reads sorts full fieldless s s''
-  settled_quiet p q = let w = last_round p q in record { steps = w.steps; quiet = λ e. w.quiet }
 
   -- the last round came to a term at which a call says that it stops, as it does at empty labels
   pub settled_empty : {s s' s'' : State} (post : Bor State → ℕ → Bool → Type 0) (x : ℕ) → ((r : Bor State) (b : Bool) → x < 78 → post r x b → b ≡ empty_at sorts full r.now x)

@@ -18,4 +18,4 @@ loop-p-preserved c = let a = c.args in
 
 pub returns : goal.returns
 unfolding parts_due
-returns c = all_done (λ q x. part_due c.args.shapes.now.slots x c.args.k c.args.i q) c.loop-p.p _ (omega (arith, c.many-count.ensures)) (omega (arith, c.many-count.ensures)) c.loop-p.invariant
+returns c = all_done (λ q x. part_due c.args.shapes.now.slots x c.args.k c.args.i q) c.loop-p.p _ (omega (arith, c.many-p-end.ensures)) (omega (arith, c.many-p-end.ensures)) c.loop-p.invariant
