@@ -43,9 +43,9 @@ variant-bytes fs = ap (λ (l : List ℕ). encoded (length fs) ++ l) (sym (number
 pub type-bytes : (vs : List Variant) → encoded (length vs) ++ concat_map variant_bytes vs ≡ type_bytes vs
 type-bytes vs = ap (λ (l : List ℕ). encoded (length vs) ++ l) (sym (each variant_tokens vs))
 
-pub part_bytes_lem : (ts : Types) → encoded (length ts) ++ concat_map type_bytes ts ≡ type_part ts
+pub part-bytes : (ts : Types) → encoded (length ts) ++ concat_map type_bytes ts ≡ type_part ts
 unfolding type_part
-part_bytes_lem ts = ap (λ (l : List ℕ). encoded (length ts) ++ l) (sym (each type_tokens ts))
+part-bytes ts = ap (λ (l : List ℕ). encoded (length ts) ++ l) (sym (each type_tokens ts))
 
 -- ---- the table, and its numbers as bytes
 
@@ -182,7 +182,7 @@ module _ {table : TypeTable} where
   types_begin {w} = record { so_far = λ ts h. nothing w }
 
   pub types_none : {w w' : Writer} → Appends (table.many ∷ []) w None w' → PutsTypes table w None w'
-  types_none p = record { puts = λ ts h. same-bytes (part_bytes_lem ts) (still_full (concat_map type_bytes ts) (many_put h p)) }
+  types_none p = record { puts = λ ts h. same-bytes (part-bytes ts) (still_full (concat_map type_bytes ts) (many_put h p)) }
 
   module _ {w w' : Writer} {t : ℕ} (s : TypesSoFar table w t w') where
     module _ (l : t < table.many) where
@@ -193,9 +193,9 @@ module _ {table : TypeTable} where
       types_next q = record { so_far = λ ts h. each_next type_bytes ts (s.so_far ts h) (type_inside h) [] (q.puts ts h (type_inside h)) }
 
       pub types_full : {before w'' : Writer} → Appends (table.many ∷ []) before (Some tt) w → PutsType table t w' None w'' → PutsTypes table before None w''
-      types_full p q = record { puts = λ ts h. same-bytes (part_bytes_lem ts) (and_then (many_put h p) (each_full type_bytes ts (s.so_far ts h) (type_inside h) [] (q.puts ts h (type_inside h)))) }
+      types_full p q = record { puts = λ ts h. same-bytes (part-bytes ts) (and_then (many_put h p) (each_full type_bytes ts (s.so_far ts h) (type_inside h) [] (q.puts ts h (type_inside h)))) }
 
     pub types_all : table.many ≤ t → {before : Writer} → Appends (table.many ∷ []) before (Some tt) w → PutsTypes table before (Some tt) w'
-    types_all l p = record { puts = λ ts h. same-bytes (part_bytes_lem ts) (and_then (many_put h p) (each_all type_bytes ts (s.so_far ts h) (omega (arith, many-held h)))) }
+    types_all l p = record { puts = λ ts h. same-bytes (part-bytes ts) (and_then (many_put h p) (each_all type_bytes ts (s.so_far ts h) (omega (arith, many-held h)))) }
 
 pub ruleset types_laws = (has_type, types_begin, types_none, types_next, types_full, types_all)
