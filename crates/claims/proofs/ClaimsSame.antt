@@ -39,7 +39,10 @@ use Rattle.refutations.specs.Record.{Entry.split_on, claim, line_at, named}
 use Rattle.refutations.proofs.ClaimLaws.{of_term, term_of_lem}
 use Rattle.unlikeconstants.specs.Unlike.{unlike_in}
 use Rattle.splitclaims.specs.SplitClaims.{is_term, splits_by}
-use Rattle.claims.specs.Claims.{ClosedBy, InsideTerm, entry_at}
+use Rattle.closings.specs.declared.Closing.{Closing}
+use Rattle.closings.specs.declared.Closing.TheVariants.{BrokenLine, EmptyLabel, InsideItself, UnlikeConstants}
+use Rattle.closings.specs.Closing.{entry_in}
+use Rattle.claims.specs.Claims.{ClosedBy, InsideTerm}
 use Rattle.unlikeconstants.proofs.UnlikeLaws.{unlike-same}
 
 -- ---- lines
@@ -131,12 +134,11 @@ module _ (limits : Limits) (sup : Supported limits) (g : Guard) (ok : WellFormed
       told : (r b : Bool) → Tells (b ≡ true) r → r ≡ b
       told r b w = both r b w.yes (λ e. by_test r (λ y. y) (λ n. absurd (w.no n e)))
 
-      pub closes_same : (kind : ℕ) → kind < 4 → (number other : ℕ) (r : Bool)
-          → Tells (ClosedBy (shapes_of g) (sorts_of g) (full_of g) (constants_of g) (row_table g.types g.rows).values (literal_table g.literals).kinds (literal_table g.literals).terms (literal_table g.literals).others (length g.literals) s kind number) r
-          → r ≡ claim (table_of g) g.literals s (entry_at kind number other)
-      closes_same zero l x o r w = told r _ w ∙ by_number (empty_label t s) (empty_at (sorts_of g) (full_of g) s) empty-at x
-      closes_same (suc zero) l j o r w = told r _ w ∙ broken-same g.literals s j
-      closes_same (suc (suc zero)) l x o r w =
+      pub closes_same : (c : Closing) (r : Bool)
+          → Tells (ClosedBy (shapes_of g) (sorts_of g) (full_of g) (constants_of g) (row_table g.types g.rows).values (literal_table g.literals).kinds (literal_table g.literals).terms (literal_table g.literals).others (length g.literals) s c) r
+          → r ≡ claim (table_of g) g.literals s (entry_in c)
+      closes_same (EmptyLabel x) r w = told r _ w ∙ by_number (empty_label t s) (empty_at (sorts_of g) (full_of g) s) empty-at x
+      closes_same (BrokenLine j) r w = told r _ w ∙ broken-same g.literals s j
+      closes_same (UnlikeConstants x) r w =
           told r _ w ∙ by_number (unlike_constants t s) (λ i. unlike_in (constants_of g) (row_table g.types g.rows).values s.classes (class_of s i)) (λ a m. unlike-same limits sup g ok total s a) x
-      closes_same (suc (suc (suc zero))) l x o r w = inside-same x r w
-      closes_same (suc (suc (suc (suc k)))) l x o r w = absurd (omega (arith, l))
+      closes_same (InsideItself x) r w = inside-same x r w

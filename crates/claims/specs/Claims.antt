@@ -1,22 +1,14 @@
 -- What an entry of a record claims of a node, by the slots of the problem's arrays. proofs/ shows that it is what the definitions of
 -- request #101 say. Assumes nothing: definitions.
-use Rattle.std.specs.Prelude.{◌≡◌, true, ◌&&◌, List, ℕ, zero, suc, ◌<◌, ltb, ℤ, get_or}
+use Rattle.std.specs.Prelude.{◌≡◌, true, ◌&&◌, List, ℕ, ◌<◌, ltb, ℤ, get_or}
 use Rattle.guard.specs.Closure.{State}
 use Rattle.reasons.specs.Reasons.{broken_at, empty_at}
 use Rattle.cycles.specs.Cycles.{Inside}
-use Rattle.refutations.specs.Record.{Entry, Entry.empty, Entry.inside, Entry.split_on, Entry.unequal_line, Entry.unlike}
+use Rattle.closings.specs.declared.Closing.{Closing}
+use Rattle.closings.specs.declared.Closing.TheVariants as closing
+use Rattle.closings.specs.declared.Closing.TheVariants.{EmptyLabel, InsideItself, UnlikeConstants}
 use Rattle.unlikeconstants.specs.Unlike.{unlike_in}
 use Rattle.splitclaims.specs.SplitClaims.{is_term}
-
--- the entry of a kind with its numbers; all but kind 4 have one alone
-abbrev pub entry_at : ℕ → ℕ → ℕ → Entry
-entry_at zero a b = empty a
-entry_at (suc zero) a b = unequal_line a
-entry_at (suc (suc zero)) a b = unlike a
-entry_at (suc (suc (suc zero))) a b = inside a
-entry_at (suc (suc (suc (suc k)))) a b = split_on (record { term = a; variant = b })
-
--- ---- the reasons to close a node
 
 abbrev pub EmptyTerm : List ℕ → List ℕ → State → ℕ → Type 0
 EmptyTerm sorts full s x = (is_term sorts x && empty_at sorts full s x) ≡ true
@@ -30,9 +22,9 @@ UnlikeTerm sorts constants values classes x = (is_term sorts x && unlike_in cons
 abbrev pub InsideTerm : List ℕ → List ℕ → State → ℕ → Type 0
 InsideTerm shapes sorts s x = (x < 78) × Inside shapes sorts s x
 
--- as an entry of this kind says
-abbrev pub ClosedBy : List ℕ → List ℕ → List ℕ → List ℕ → List ℤ → List ℕ → List ℕ → List ℕ → ℕ → State → ℕ → ℕ → Type 0
-ClosedBy shapes sorts full constants values kinds terms others many s zero x = EmptyTerm sorts full s x
-ClosedBy shapes sorts full constants values kinds terms others many s (suc zero) j = BrokenLine kinds terms others many s.classes j
-ClosedBy shapes sorts full constants values kinds terms others many s (suc (suc zero)) x = UnlikeTerm sorts constants values s.classes x
-ClosedBy shapes sorts full constants values kinds terms others many s (suc (suc (suc k))) x = InsideTerm shapes sorts s x
+-- as the entry says
+abbrev pub ClosedBy : List ℕ → List ℕ → List ℕ → List ℕ → List ℤ → List ℕ → List ℕ → List ℕ → ℕ → State → Closing → Type 0
+ClosedBy shapes sorts full constants values kinds terms others many s (EmptyLabel x) = EmptyTerm sorts full s x
+ClosedBy shapes sorts full constants values kinds terms others many s (closing.BrokenLine j) = BrokenLine kinds terms others many s.classes j
+ClosedBy shapes sorts full constants values kinds terms others many s (UnlikeConstants x) = UnlikeTerm sorts constants values s.classes x
+ClosedBy shapes sorts full constants values kinds terms others many s (InsideItself x) = InsideTerm shapes sorts s x

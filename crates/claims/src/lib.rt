@@ -2,118 +2,74 @@
 // numbers of an entry come from a record, and may be any.
 #![tactic(auto)]
 
-ghost use Rattle.std.specs.Prelude.{◌≤◌, ◌<◌};
-ghost use Rattle.classes.specs.Held.{Held, state};
-ghost use Rattle.arrays.specs.Slots.{ShapesFit, SortsFit};
+ghost use Rattle.std.specs.Prelude.{◌≤◌};
 ghost use Rattle.reasons.specs.Reasons.{LinesFit};
 ghost use Rattle.cycles.specs.Cycles.{Tells};
 ghost use Rattle.claims.specs.Claims.{BrokenLine, ClosedBy, EmptyTerm, InsideTerm, UnlikeTerm};
 
-fn is_empty(
-    classes: &[u8; 96],
-    labels: &[u16; 96],
-    sorts: &[u8; 96],
-    full: &[u16; 8],
-    x: u32,
-) -> bool
-    requires held { Held classes.now }
-    requires sorts_fit { SortsFit sorts.now }
-    ensures { Tells (EmptyTerm sorts.now full.now (state classes.now labels.now) x) result }
+use classes::State;
+use closings::Closing;
+use constants::Constants;
+use labelled::Sorts;
+use slots::Shapes;
+use splitclaims::term_of;
+use tables::LiteralTable;
+
+fn is_empty(state: &State, sorts: &Sorts, x: u32) -> bool
+    ensures { Tells (EmptyTerm sorts.now.sorts sorts.now.full state.now x) result }
 {
-    if !splitclaims::is_term(sorts, x) {
-        return false;
+    match term_of(sorts, x) {
+        Some(term) => reasons::is_empty(state, sorts, term),
+        None => false,
     }
-    reasons::is_empty(classes, labels, sorts, full, x as usize)
 }
 
-fn is_broken(
-    classes: &[u8; 96],
-    kinds: &[u8; 64],
-    terms: &[u8; 64],
-    others: &[u8; 64],
-    many: usize,
-    j: u32,
-) -> bool
-    requires many_bound { many ≤ 64 }
-    requires lines_fit_lem { LinesFit terms.now others.now }
-    ensures { Tells (BrokenLine kinds.now terms.now others.now many classes.now j) result }
+fn is_broken(state: &State, lines: &LiteralTable, j: u32) -> bool
+    requires many_bound { lines.now.many ≤ 64 }
+    requires lines_fit { LinesFit lines.now.terms lines.now.others }
+    ensures { Tells (BrokenLine lines.now.kinds lines.now.terms lines.now.others lines.now.many state.now.classes j) result }
 {
-    if many <= j as usize {
+    if lines.many <= j as usize {
         return false;
     }
-    reasons::is_broken(classes, kinds, terms, others, j as usize)
+    reasons::is_broken(state, lines, j as usize)
 }
 
-fn is_unlike(
-    classes: &[u8; 96],
-    sorts: &[u8; 96],
-    constants: &[u8; 32],
-    values: &[i64; 24],
-    x: u32,
-) -> bool
-    ensures { Tells (UnlikeTerm sorts.now constants.now values.now classes.now x) result }
+fn is_unlike(state: &State, sorts: &Sorts, constants: &Constants, x: u32) -> bool
+    ensures { Tells (UnlikeTerm sorts.now.sorts constants.now.sorts constants.now.values state.now.classes x) result }
 {
-    if !splitclaims::is_term(sorts, x) {
-        return false;
+    match term_of(sorts, x) {
+        Some(term) => unlikeconstants::holds_unlike(state, constants, state.class_of(term)),
+        None => false,
     }
-    unlikeconstants::holds_unlike(
-        classes,
-        constants,
-        values,
-        classes::class_of(classes, x as u8),
-    )
 }
 
-fn is_inside(
-    classes: &[u8; 96],
-    labels: &[u16; 96],
-    shapes: &[u16; 256],
-    sorts: &[u8; 96],
-    x: u32,
-) -> bool
-    requires held { Held classes.now }
-    requires shapes_fit { ShapesFit shapes.now }
-    ensures { Tells (InsideTerm shapes.now sorts.now (state classes.now labels.now) x) result }
+fn is_inside(state: &State, shapes: &Shapes, sorts: &Sorts, x: u32) -> bool
+    ensures { Tells (InsideTerm shapes.now.slots sorts.now.sorts state.now x) result }
 {
     if 78 <= x {
         return false;
     }
-    let mut spare = [0u8; 96];
-    cycles::is_inside(classes, labels, shapes, sorts, &mut spare, x as u8)
+    cycles::is_inside(state, shapes, sorts, x as u8)
 }
 
-// Whether the node is closed as an entry of kind 0, 1, 2 or 3 with this number says.
+// Whether the node is closed as the entry says.
 pub fn closes(
-    classes: &[u8; 96],
-    labels: &[u16; 96],
-    shapes: &[u16; 256],
-    sorts: &[u8; 96],
-    full: &[u16; 8],
-    constants: &[u8; 32],
-    values: &[i64; 24],
-    kinds: &[u8; 64],
-    terms: &[u8; 64],
-    others: &[u8; 64],
-    many: usize,
-    kind: u32,
-    number: u32,
+    state: &State,
+    shapes: &Shapes,
+    sorts: &Sorts,
+    constants: &Constants,
+    lines: &LiteralTable,
+    closing: Closing,
 ) -> bool
-    requires kind_bound { kind < 4 }
-    requires held { Held classes.now }
-    requires shapes_fit { ShapesFit shapes.now }
-    requires sorts_fit { SortsFit sorts.now }
-    requires lines_fit_lem { LinesFit terms.now others.now }
-    requires many_bound { many ≤ 64 }
-    ensures { Tells (ClosedBy shapes.now sorts.now full.now constants.now values.now kinds.now terms.now others.now many (state classes.now labels.now) kind number) result }
+    requires lines_fit { LinesFit lines.now.terms lines.now.others }
+    requires many_bound { lines.now.many ≤ 64 }
+    ensures { Tells (ClosedBy shapes.now.slots sorts.now.sorts sorts.now.full constants.now.sorts constants.now.values lines.now.kinds lines.now.terms lines.now.others lines.now.many state.now closing) result }
 {
-    if kind == 0 {
-        return is_empty(classes, labels, sorts, full, number);
+    match closing {
+        Closing::EmptyLabel(x) => is_empty(state, sorts, x),
+        Closing::BrokenLine(j) => is_broken(state, lines, j),
+        Closing::UnlikeConstants(x) => is_unlike(state, sorts, constants, x),
+        Closing::InsideItself(x) => is_inside(state, shapes, sorts, x),
     }
-    if kind == 1 {
-        return is_broken(classes, kinds, terms, others, many, number);
-    }
-    if kind == 2 {
-        return is_unlike(classes, sorts, constants, values, number);
-    }
-    is_inside(classes, labels, shapes, sorts, number)
 }

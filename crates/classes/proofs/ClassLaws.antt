@@ -5,13 +5,15 @@ use mathlib.Core.Bool.{Bool, true, false, cond, not}
 use mathlib.Core.List.{List, [], ◌∷◌, map}
 use Prim.Native.Nat.{ℕ, zero, suc, ◌+◌, ◌≤◌, ◌<◌, max, min}
 use native.Mathlib.Omega.{arith}
+use lib.Bits.{and_le_l, bit_and}
 use lib.Dec.{eqb}
 use lib.ListN.{length, get_or, set}
 use borrow.Author.Tests.{eq-eqb, ne_eqb}
 use native.Mathlib.Numerals.{add-one}
+use Rattle.laws.proofs.Stores.{set_ind}
 use Rattle.laws.proofs.InPlace.{front-all, front_at, front-next, map_front}
-use Rattle.guard.specs.Closure.{Fact, Fact.same, Fact.within, State, add, class_of, holds, merge, merge_unless, rename}
-use Rattle.classes.specs.Held.{Held, state}
+use Rattle.guard.specs.Closure.{Fact.same, State, add, class_of, holds, merge, merge_unless, rename}
+use Rattle.classes.specs.Held.{Held, Kept}
 
 module _ (low high : ℕ) where
   abbrev renamed : ℕ → ℕ
@@ -54,8 +56,8 @@ module _ (s : State) (i j : ℕ) where
 
 -- ---- the arrays stay as they have to be
 
-pub class_there : (cs : List ℕ) (i : ℕ) → Held cs → get_or cs i 0 < 96
-class_there cs i h = h.there i
+pub class_there : (cs ls : List ℕ) (i : ℕ) → Kept cs ls → get_or cs i 0 < 96
+class_there cs ls i k = k.held.there i
 
 rename-there : (low high : ℕ) (cs : List ℕ) → low < 96 → ((i : ℕ) → get_or cs i 0 < 96) → (i : ℕ) → get_or (rename low high cs) i 0 < 96
 rename-there low high [] small there i = omega arith
@@ -70,8 +72,17 @@ rename-long : (low high : ℕ) (cs : List ℕ) → length (rename low high cs) �
 rename-long low high [] = refl
 rename-long low high (c ∷ cs) = ap suc (rename-long low high cs)
 
--- and so is the array of the state after a merge
-pub merge_held : (cs ds : List ℕ) (c d : ℕ) → Held cs → c < 96 → d < 96 → ds ≡ rename (min c d) (max c d) cs → Held ds
-merge_held cs ds c d h small small' e =
-    subst Held (sym e)
-    (record { long = rename-long (min c d) (max c d) cs ∙ h.long; there = rename-there (min c d) (max c d) cs (omega (arith, small, small')) h.there })
+small_cut : (ls : List ℕ) → ((c : ℕ) → get_or ls c 0 < 65536) → (i j m c : ℕ) → get_or (set ls i (bit_and (get_or ls j 0) m)) c 0 < 65536
+small_cut ls h i j m c = set_ind (λ x. x < 65536) ls i (bit_and (get_or ls j 0) m) c (omega arith) (λ q. omega (arith, and_le_l (get_or ls j 0) m, h j)) (h c)
+
+-- and so is a state after a merge, and after a label is cut down
+pub merge_kept : (cs ls cs' ls' : List ℕ) (c d : ℕ) → Kept cs ls → c < 96 → d < 96 → cs' ≡ rename (min c d) (max c d) cs → ls' ≡ set ls (min c d) (bit_and (get_or ls c 0) (get_or ls d 0)) → Kept cs' ls'
+merge_kept cs ls cs' ls' c d k small small' e f =
+    record {
+      held = subst Held (sym e)
+          (record { long = rename-long (min c d) (max c d) cs ∙ k.held.long; there = rename-there (min c d) (max c d) cs (omega (arith, small, small')) k.held.there });
+      small = λ x. subst (λ (l : List ℕ). get_or l x 0 < 65536) (sym f) (small_cut ls k.small (min c d) c (get_or ls d 0) x);
+    }
+
+pub cut_kept : (cs ls : List ℕ) (i j m : ℕ) → Kept cs ls → Kept cs (set ls i (bit_and (get_or ls j 0) m))
+cut_kept cs ls i j m k = record { held = k.held; small = small_cut ls k.small i j m }

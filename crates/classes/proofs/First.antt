@@ -13,7 +13,8 @@ use Rattle.laws.proofs.Bools.{by_test}
 use Rattle.laws.proofs.Lists.{from_at, from-length}
 use Rattle.guard.specs.Closure.{every_variant}
 use Rattle.guard.proofs.ClosureEnds.{first}
-use Rattle.classes.specs.Held.{Held, state}
+use Rattle.guard.proofs.ClosureState.{Small, first_small}
+use Rattle.classes.specs.Held.{Kept, state}
 
 module _ (cs : List ℕ) (long : length cs ≡ 96) (own : (i : ℕ) → i < 96 → get_or cs i 0 ≡ i) where
   pub own_classes : state cs (replicate 96 every_variant) ≡ first 96
@@ -22,10 +23,14 @@ module _ (cs : List ℕ) (long : length cs ≡ 96) (own : (i : ℕ) → i < 96 �
       ap (λ (xs : List ℕ). state xs (replicate 96 every_variant))
       (ext_get_or 0 cs (from 96 0) (long ∙ sym (from-length 96 0)) (λ i b. let h : i < 96 = omega (arith, long) in own i h ∙ sym (from_at 96 0 i 0 h ∙ zero-add i)))
 
-  pub own_classes_held : Held cs
-  own_classes_held =
+  pub own_classes_kept : Kept cs (replicate 96 65535)
+  unfolding Small first
+  own_classes_kept =
       record {
-        long = long;
-        there = λ i. by_test (ltb i 96) (λ e. omega (arith, own i (ltb-true i 96 e), ltb-true i 96 e))
-            (λ e. omega (arith, get_or-eq_default cs 0 {n = i} (omega (arith, long, ltb-false i 96 e))));
+        held = record {
+          long = long;
+          there = λ i. by_test (ltb i 96) (λ e. omega (arith, own i (ltb-true i 96 e), ltb-true i 96 e))
+              (λ e. omega (arith, get_or-eq_default cs 0 {n = i} (omega (arith, long, ltb-false i 96 e))));
+        };
+        small = λ c. first_small 96 c;
       }

@@ -9,3 +9,8 @@ state classes labels = record { classes = classes; labels = labels }
 pub record Held (classes : List ℕ) : Type 0 where
   pub long : length classes ≡ 96
   pub there : (i : ℕ) → get_or classes i 0 < 96
+
+-- and the labels are masks of 16 bits
+pub record Kept (classes labels : List ℕ) : Type 0 where
+  pub held : Held classes
+  pub small : (c : ℕ) → get_or labels c 0 < 65536

@@ -2,15 +2,16 @@
 // There is room for 18 terms more than the 78 of today.
 #![tactic(auto)]
 
-ghost use Rattle.std.specs.Prelude.{◌≡◌, not, ◌<◌, min, max, length, get_or, set};
+ghost use Rattle.std.specs.Prelude.{◌≡◌, ℕ, not, ◌<◌, min, max, length, get_or, set};
 ghost use Rattle.std.specs.Int.Bits.{bit_and};
 ghost use Rattle.guard.specs.Closure.{Fact.same, Fact.within, add, class_of, holds, label_of, rename, same_class};
 ghost use Rattle.guard.proofs.ClosureEnds.{first};
+ghost use Rattle.classes.specs.Held.{Held};
 
 use std::marker::Model;
 
-// The class of each term and the label of each class. A contract sees the state of the definitions; that each class is a term is
-// true of every value, and no clause says it.
+// The class of each term and the label of each class. A contract sees the state of the definitions; that each class is a term, and each
+// label a mask of 16 bits, is true of every value, and no clause says it.
 #[derive(Clone, Copy)]
 pub struct State {
     classes: [u8; 96],
@@ -22,13 +23,13 @@ impl Model for State {
 
     ghost Value = { closure.State };
 
-    ghost use Rattle.classes.specs.Held.{Held};
+    ghost use Rattle.classes.specs.Held.{Kept};
 
     ghost view = { λ s. record { classes = s.classes; labels = s.labels } };
 
     ghost inverse = { λ s. record { classes = s.classes; labels = s.labels } };
 
-    ghost invariant = { λ s. Held s.classes };
+    ghost invariant = { λ s. Kept s.classes s.labels };
 }
 
 // Class `high` becomes `low`.
@@ -60,6 +61,15 @@ fn merge(classes: &mut [u8; 96], labels: &mut [u16; 96], c: u8, d: u8)
 }
 
 impl State {
+    // No code: where a caller's proof needs it, it learns here that each class is a term, and each label a mask of 16 bits.
+    pub fn held(&self)
+        ensures held { Held self.now.classes }
+        ensures long { length self.now.labels ≡ 96 }
+        ensures small { (c : ℕ) → get_or self.now.labels c 0 < 65536 }
+    {
+        let _ = &self.classes;
+    }
+
     // Each term in a class of its own, its label not cut down yet.
     pub fn first() -> State
         ensures { result ≡ first 96 }
@@ -117,7 +127,7 @@ impl State {
     }
 
     // The label of a term is cut down to a mask; true if it was not inside it.
-    #[tactic(auto, using(crate::proofs::ClassLaws::class_there))]
+    #[tactic(auto, using(crate::proofs::ClassLaws::class_there, crate::proofs::ClassLaws::cut_kept))]
     pub fn restrict(&mut self, x: u8, mask: u16) -> bool
         requires { x < 96 }
         ensures after { self.new ≡ add self.old (within x mask) }

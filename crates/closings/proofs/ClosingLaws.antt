@@ -3,13 +3,15 @@
 use mathlib.Core.Path.{◌≡◌, refl, ap, ap₂, sym, ◌∙◌}
 use mathlib.Core.Bool.{Bool, true, false, not, ◌&&◌, cond}
 use mathlib.Core.List.{List}
-use mathlib.Core.Option.{Option, none, some}
+use mathlib.Core.Option as math
 use Prim.Native.Nat.{ℕ, zero, suc, ◌-◌, ◌^◌, ◌≤◌, ◌<◌}
 use native.Mathlib.Nat.{pow-suc}
 use native.Mathlib.Omega.{arith}
 use lib.Dec.{eqb, ltb}
 use lib.ListN.{length, get_or}
 use lib.Pow.{pow_pos}
+use Rattle.std.specs.declared.option.Option.{Option}
+use Rattle.std.specs.declared.option.Option.TheVariants.{None, Some}
 use borrow.Author.Tests.{eq-eqb, le-ltb, lt-ltb, ne_eqb}
 use Rattle.laws.specs.Lists.{any}
 use Rattle.laws.proofs.Bools.{by_test}
@@ -28,7 +30,7 @@ use Rattle.guard.proofs.TableLaws.{literals_in_range_lem, table_in_range}
 use Rattle.models.proofs.Nodes.{NodeOf}
 use Rattle.tables.specs.Layout.{flat, literal_table, row_table}
 use Rattle.classes.specs.Held.{Held}
-use Rattle.loops.specs.Lowest.{lowest}
+use Rattle.loops.specs.Lowest.{Finds, lowest}
 use Rattle.loops.proofs.Loops.{both}
 use Rattle.loops.proofs.Tests.{no_and}
 use Rattle.arrays.specs.Arrays.{constants_of, fieldless_of, full_of, shapes_of, sorts_of}
@@ -37,7 +39,7 @@ use Rattle.arrays.specs.Slots.{sort_at}
 use Rattle.arrays.proofs.GuardSlots.{sort_slots}
 use Rattle.arrays.proofs.TableSlots.{SortSlots}
 use Rattle.reasons.proofs.ReasonLaws.{broken-at}
-use Rattle.reasons.specs.Reasons.{broken_at, empty_at}
+use Rattle.reasons.specs.Reasons.{broken_at, empty_at, unlike_at}
 use Rattle.cycles.specs.Cycles.{Inside, LowestOf, inside_term}
 use Rattle.cycles.proofs.CycleLaws.{named}
 use Rattle.refutations.specs.Record as records
@@ -45,7 +47,8 @@ use Rattle.refutations.specs.Record.{Entry, Entry.empty, Entry.inside, Entry.une
 use Rattle.refutations.proofs.ClaimLaws.{any-named, of_term, term_of_lem}
 use Rattle.refutations.proofs.LowestClosing.{closing-lowest, lowest_or}
 use Rattle.closings.specs.declared.Closing.{Closing}
-use Rattle.closings.specs.Closing.{Names, Names.of_empty, Names.of_inside, Names.of_line, Names.of_none, Names.of_unlike, closing_of}
+use Rattle.closings.specs.declared.Closing.TheVariants.{BrokenLine, EmptyLabel, InsideItself, UnlikeConstants}
+use Rattle.closings.specs.Closing.{Names, entry_of}
 use Rattle.refutations.proofs.ClaimsAgree.{claim-agrees}
 use Rattle.closings.proofs.UnlikeLaws.{unlike-found, unlike_nowhere}
 
@@ -55,13 +58,13 @@ least_same_lem : (p q : ℕ → Bool) (n : ℕ) → ((k : ℕ) → k < n → p k
 least_same_lem p q zero h = refl
 least_same_lem p q (suc n) h = ap₂ (λ (b : Bool) (k : ℕ). cond b 0 (suc k)) (h 0 (omega arith)) (least_same_lem (λ k. p (suc k)) (λ k. q (suc k)) n (λ k l. h (suc k) (omega arith)))
 
--- a number that was found is the entry's, and one that wasn't leaves it to the others
-module _ (make : ℕ → Entry) (n k l : ℕ) (is : l ≡ k) (other : Option Entry) where
-  taken : k < n → cond (ltb l n) (some (make l)) other ≡ some (make k)
-  taken h = ap (λ (b : Bool). cond b (some (make l)) other) (lt-ltb l n (omega (arith, is, h))) ∙ ap (λ (i : ℕ). some (make i)) is
+-- what is found is the entry's, and where nothing is it is left to the others
+module _ (make : ℕ → Entry) (n l : ℕ) (other : math.Option Entry) where
+  taken : (k : ℕ) → k < n → l ≡ k → cond (ltb l n) (math.some (make l)) other ≡ math.some (make k)
+  taken k h is = ap (λ (b : Bool). cond b (math.some (make l)) other) (lt-ltb l n (omega (arith, is, h))) ∙ ap (λ (i : ℕ). math.some (make i)) is
 
-  passed : n ≤ k → cond (ltb l n) (some (make l)) other ≡ other
-  passed h = ap (λ (b : Bool). cond b (some (make l)) other) (le-ltb l n (omega (arith, is, h)))
+  passed : l ≡ n → cond (ltb l n) (math.some (make l)) other ≡ other
+  passed is = ap (λ (b : Bool). cond b (math.some (make l)) other) (le-ltb l n (omega (arith, is)))
 
 -- ---- claims about the terms of one number
 
@@ -145,43 +148,44 @@ module _ (limits : Limits) (sup : Supported limits) (g : Guard) (ok : WellFormed
   unlikes_agree : least (λ i. claim t lines S (unlike i)) term_count ≡ least (λ i. claim t lines s (unlike i)) term_count
   unlikes_agree = least_same_lem _ _ term_count (λ k h. sym (same-claim (unlike k)))
 
-  lowest-inside : (r : ℕ) → LowestOf (Inside (shapes_of g) (sorts_of g) s) 78 r → least (λ i. claim t lines S (inside i)) term_count ≡ r
+  lowest-inside : least (λ i. claim t lines S (inside i)) term_count ≡ lowest (inside_term t s) 78
   unfolding lowest inside_term
-  lowest-inside r w =
-      least_same_lem _ _ 78 (λ k h. sym (same-claim (inside k)) ∙ any-named t (inside_itself s (builds_at t s)) k)
-      ∙ sym (named limits sup g ok total s small held (λ i h. omega (arith, agree.class i h, (named_closure t ls).low i)) r w)
+  lowest-inside = least_same_lem _ _ 78 (λ k h. sym (same-claim (inside k)) ∙ any-named t (inside_itself s (builds_at t s)) k)
+
+  inside-named : (r : Option ℕ) → LowestOf (Inside (shapes_of g) (sorts_of g) s) 78 r → Finds (inside_term t s) 78 r
+  inside-named = named limits sup g ok total s small held (λ i h. omega (arith, agree.class i h, (named_closure t ls).low i))
 
   -- ---- the closing
 
-  pub closing-named : (r : Closing) → Names (shapes_of g) (sorts_of g) (full_of g) (constants_of g) (row_table g.types g.rows).values (literal_table g.literals).kinds (literal_table g.literals).terms (literal_table g.literals).others (literal_table g.literals).many s r
-      → r ≡ closing_of (closing (table_of g) g.literals (closure_of (table_of g) ls))
-  closing-named r w = go r w ∙ ap closing_of (sym (closing-lowest t lines S))
+  pub closing-named : (r : Option Closing) → Names (shapes_of g) (sorts_of g) (full_of g) (constants_of g) (row_table g.types g.rows).values (literal_table g.literals).kinds (literal_table g.literals).terms (literal_table g.literals).others (literal_table g.literals).many s r
+      → closing (table_of g) g.literals (closure_of (table_of g) ls) ≡ entry_of r
+  closing-named r w = closing-lowest t lines S ∙ go r w
     where
-      fourth : Option Entry
-      fourth = lowest_or (claim t lines S) inside term_count none
+      fourth : math.Option Entry
+      fourth = lowest_or (claim t lines S) inside term_count math.none
 
-      third : Option Entry
+      third : math.Option Entry
       third = lowest_or (claim t lines S) unlike term_count fourth
 
-      second : Option Entry
+      second : math.Option Entry
       second = lowest_or (claim t lines S) unequal_line (length lines) third
 
-      not_empty : (x : ℕ) → x ≡ lowest (empty_at (sorts_of g) (full_of g) s) 78 → 78 ≤ x → second ≡ lowest_or (claim t lines S) empty term_count second
-      not_empty x e h = sym (passed empty term_count x _ (lowest-empty ∙ sym e) second h)
+      first : math.Option Entry
+      first = lowest_or (claim t lines S) empty term_count second
 
-      not_broken : (j : ℕ) → j ≡ lowest (broken_at (literal_table lines).kinds (literal_table lines).terms (literal_table lines).others s.classes) (literal_table lines).many → (literal_table lines).many ≤ j → third ≡ second
-      not_broken j e h = sym (passed unequal_line (length lines) j _ (lowest-broken ∙ sym e) third (omega (arith, many_is lines, h)))
+      not_empty : Finds (empty_at (sorts_of g) (full_of g) s) 78 None → first ≡ second
+      not_empty e = passed empty term_count _ second (lowest-empty ∙ e)
 
-      go : (r : Closing) → Names (shapes_of g) (sorts_of g) (full_of g) (constants_of g) (row_table g.types g.rows).values (literal_table g.literals).kinds (literal_table g.literals).terms (literal_table g.literals).others (literal_table g.literals).many s r
-          → r ≡ closing_of (lowest_or (claim t lines S) empty term_count second)
-      go r (of_empty x e h) = ap closing_of (sym (taken empty term_count x _ (lowest-empty ∙ sym e) second h))
-      go r (of_line x j ex hx e h) = ap closing_of (sym (taken unequal_line (length lines) j _ (lowest-broken ∙ sym e) third (omega (arith, many_is lines, h))) ∙ not_empty x ex hx)
-      go r (of_unlike x j c ex hx ej hj e h) =
-          let (l, q) = unlike-found limits sup g ok total ls nd s agree c e h in
-          ap closing_of (sym (taken unlike term_count c _ (unlikes_agree ∙ q) fourth l) ∙ not_broken j ej hj ∙ not_empty x ex hx)
-      go r (of_inside x j c i ex hx ej hj ec hc w h) =
-          ap closing_of (sym (taken inside term_count i _ (lowest-inside i w) none h)
-          ∙ sym (passed unlike term_count term_count _ (unlikes_agree ∙ unlike_nowhere limits sup g ok total ls nd s agree c ec hc) fourth (omega arith)) ∙ not_broken j ej hj ∙ not_empty x ex hx)
-      go r (of_none x j c i ex hx ej hj ec hc w h) =
-          ap closing_of (sym (passed inside term_count i _ (lowest-inside i w) none h)
-          ∙ sym (passed unlike term_count term_count _ (unlikes_agree ∙ unlike_nowhere limits sup g ok total ls nd s agree c ec hc) fourth (omega arith)) ∙ not_broken j ej hj ∙ not_empty x ex hx)
+      not_broken : Finds (broken_at (literal_table lines).kinds (literal_table lines).terms (literal_table lines).others s.classes) (literal_table lines).many None → second ≡ third
+      not_broken e = passed unequal_line (length lines) _ third (lowest-broken ∙ e ∙ many_is lines)
+
+      not_unlike : Finds (unlike_at (constants_of g) (row_table g.types g.rows).values s.classes 30) 96 None → third ≡ fourth
+      not_unlike e = passed unlike term_count _ fourth (unlikes_agree ∙ unlike_nowhere limits sup g ok total ls nd s agree e)
+
+      go : (r : Option Closing) → Names (shapes_of g) (sorts_of g) (full_of g) (constants_of g) (row_table g.types g.rows).values (literal_table g.literals).kinds (literal_table g.literals).terms (literal_table g.literals).others (literal_table g.literals).many s r
+          → first ≡ entry_of r
+      go (Some (EmptyLabel x)) (l, e) = taken empty term_count _ second x l (lowest-empty ∙ sym e)
+      go (Some (BrokenLine j)) (x, (l, e)) = not_empty x ∙ taken unequal_line (length lines) _ third j (omega (arith, many_is lines, l)) (lowest-broken ∙ sym e)
+      go (Some (UnlikeConstants c)) (x, j, e) = let (l, q) = unlike-found limits sup g ok total ls nd s agree c e.1 e.0 in not_empty x ∙ not_broken j ∙ taken unlike term_count _ fourth c l (unlikes_agree ∙ q)
+      go (Some (InsideItself i)) (x, j, c, w) = let (l, e) = inside-named (Some i) w in not_empty x ∙ not_broken j ∙ not_unlike c ∙ taken inside term_count _ math.none i l (lowest-inside ∙ sym e)
+      go None (x, j, c, w) = not_empty x ∙ not_broken j ∙ not_unlike c ∙ passed inside term_count _ math.none (lowest-inside ∙ inside-named None w)

@@ -177,7 +177,7 @@ module _ (limits : Limits) (sup : Supported limits) (g : Guard) (ok : WellFormed
       let (there, p) = class_here c (subst (λ (k : ℕ). class k ≡ true) (sym e) (least_passes class 96 (omega (arith, e, h)))) in
       (there, sym (lowest-here here term_count c there (none_here c (omega (arith, there)) (omega (arith, e))) p))
 
-  pub unlike_nowhere : (c : ℕ) → c ≡ lowest (unlike_at (constants_of g) (row_table g.types g.rows).values s.classes 30) 96 → 96 ≤ c
+  pub unlike_nowhere : lowest (unlike_at (constants_of g) (row_table g.types g.rows).values s.classes 30) 96 ≡ 96
       → least (λ i. claim (table_of g) g.literals s (Entry.unlike i)) term_count ≡ term_count
   unfolding lowest
-  unlike_nowhere c e h = sym (lowest_nowhere here term_count term_count (omega arith) (none_here term_count (omega arith) (omega (arith, e, h))))
+  unlike_nowhere e = sym (lowest_nowhere here term_count term_count (omega arith) (none_here term_count (omega arith) (omega (arith, e))))

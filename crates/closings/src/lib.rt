@@ -1,72 +1,65 @@
 // Which of the four reasons closes a node, and at which term or line: what the record of request #101 says of a closed node.
 #![tactic(auto)]
 
-ghost use Rattle.std.specs.Prelude.{◌≤◌};
-ghost use Rattle.classes.specs.Held.{Held, state};
-ghost use Rattle.arrays.specs.Slots.{ShapesFit, SortsFit};
-ghost use Rattle.labelled.specs.Covers.{Covers, has_mask};
+ghost use Rattle.std.specs.Prelude.{◌≡◌, ◌≤◌, [], ◌∷◌};
 ghost use Rattle.reasons.specs.Reasons.{LinesFit};
-ghost use Rattle.closings.specs.Closing.{Names};
+ghost use Rattle.refutations.specs.Record.{numbers_of};
+ghost use Rattle.closings.specs.Closing.{Names, entry_in};
 
+use classes::State;
+use constants::Constants;
 use cycles::inside_itself;
+use labelled::Sorts;
 use reasons::{broken_line, empty_label, unlike_constants};
+use slots::Shapes;
+use tables::LiteralTable;
 
-// A reason by its number in the record and the term or line that it is found at; kind 4 and number 0 stand for none.
+// A reason to close a node, with the number of the term or line that it is found at.
 #[derive(Clone, Copy)]
-pub struct Closing {
-    pub kind: u8,
-    pub number: u8,
+pub enum Closing {
+    EmptyLabel(u32),
+    BrokenLine(u32),
+    UnlikeConstants(u32),
+    InsideItself(u32),
+}
+
+impl Closing {
+    // The numbers that a record has for it: that of the reason, then that of the term or line.
+    pub fn numbers(self) -> (u8, u32)
+        ensures { numbers_of (entry_in self) ≡ result.0 ∷ result.1 ∷ [] }
+    {
+        match self {
+            Closing::EmptyLabel(x) => (0, x),
+            Closing::BrokenLine(j) => (1, j),
+            Closing::UnlikeConstants(x) => (2, x),
+            Closing::InsideItself(x) => (3, x),
+        }
+    }
 }
 
 // The lowest reason that applies, with its lowest term or line.
 pub fn closing_of(
-    classes: &[u8; 96],
-    labels: &[u16; 96],
-    shapes: &[u16; 256],
-    sorts: &[u8; 96],
-    full: &[u16; 8],
-    labelled: &[u8; 96],
-    count: usize,
-    constants: &[u8; 32],
-    values: &[i64; 24],
-    kinds: &[u8; 64],
-    terms: &[u8; 64],
-    others: &[u8; 64],
-    many: usize,
-) -> Closing
-    requires held { Held classes.now }
-    requires shapes_fit { ShapesFit shapes.now }
-    requires sorts_fit { SortsFit sorts.now }
-    requires covers { Covers (has_mask sorts.now full.now) 78 labelled.now count }
-    requires lines_fit_lem { LinesFit terms.now others.now }
-    requires many_bound { many ≤ 64 }
-    ensures { Names shapes.now sorts.now full.now constants.now values.now kinds.now terms.now others.now many (state classes.now labels.now) result }
+    state: &State,
+    shapes: &Shapes,
+    sorts: &Sorts,
+    constants: &Constants,
+    lines: &LiteralTable,
+) -> Option<Closing>
+    requires lines_fit { LinesFit lines.now.terms lines.now.others }
+    requires many_bound { lines.now.many ≤ 64 }
+    ensures { Names shapes.now.slots sorts.now.sorts sorts.now.full constants.now.sorts constants.now.values lines.now.kinds lines.now.terms lines.now.others lines.now.many state.now result }
 {
-    let x = empty_label(classes, labels, sorts, full, labelled, count);
-    if x < 78 {
-        return Closing {
-            kind: 0,
-            number: x as u8,
-        };
+    if let Some(x) = empty_label(state, sorts) {
+        return Some(Closing::EmptyLabel(x as u32));
     }
-    let j = broken_line(classes, kinds, terms, others, many);
-    if j < many {
-        return Closing {
-            kind: 1,
-            number: j as u8,
-        };
+    if let Some(j) = broken_line(state, lines) {
+        return Some(Closing::BrokenLine(j as u32));
     }
-    let c = unlike_constants(classes, constants, values);
-    if c < 96 {
-        return Closing {
-            kind: 2,
-            number: c as u8,
-        };
+    if let Some(c) = unlike_constants(state, constants) {
+        return Some(Closing::UnlikeConstants(c as u32));
     }
-    let mut spare = [0u8; 96];
-    let i = inside_itself(classes, labels, shapes, sorts, &mut spare);
-    if i < 78 {
-        return Closing { kind: 3, number: i };
+    if let Some(x) = inside_itself(state, shapes, sorts) {
+        return Some(Closing::InsideItself(x as u32));
     }
-    Closing { kind: 4, number: 0 }
+    None
 }

@@ -3,15 +3,14 @@ use mathlib.Core.Path.{◌≡◌, ap, sym, ◌∙◌}
 use mathlib.Core.Bool.{Bool, cond, false≢true}
 use mathlib.Core.List.{List}
 use Prim.Native.Nat.{ℕ, ◌+◌, ◌≤◌, ◌<◌}
-use native.Mathlib.Omega.{arith}
-use lib.Dec.{eqb, ltb}
+use lib.Dec.{eqb}
 use lib.IntN.{ℤ, pos}
 use lib.ListN.{get_or}
 use mir.Facts.{to_z-of_z}
 use mir.Syntax.{w64}
 use mir.Val.{SFits, of_z, to_z}
 use borrow.Author.Tests.{eq-eqb, le-ltb, lt-ltb, ne_eqb}
-use Rattle.laws.proofs.Bools.{by_test, cond_ind}
+use Rattle.laws.proofs.Bools.{by_test}
 use Rattle.guard.specs.Closure.{eq_z}
 use Rattle.guard.proofs.ClosureBelow.{eq_z_true}
 use Rattle.guard.proofs.LeastClosure.{eq_z_of}
@@ -31,10 +30,6 @@ module _ (k : ℕ) where
   pub default-term : 24 ≤ k → k + 48 ≡ constant_term k
   unfolding constant_term
   default-term h = sym (ap (λ (b : Bool). cond b k (k + 48)) (le-ltb k 24 h))
-
-  pub constant-small : k < 30 → constant_term k < 96
-  unfolding constant_term
-  constant-small h = cond_ind (λ x. x < 96) (ltb k 24) k (k + 48) (λ e. omega arith) (λ e. omega arith)
 
 module _ (values : List ℤ) (k : ℕ) where
   pub row-value : k < 24 → get_or values k (pos 0) ≡ constant_value values k

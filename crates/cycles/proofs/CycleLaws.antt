@@ -1,14 +1,14 @@
 -- For a guard's arrays: a class is a part of itself through active shapes exactly where it is through built rows at the state. So the
--- number that the search gives is that of the lowest term whose class is a part of itself, or 78 if there is none. Assumes nothing.
+-- search gives the lowest term whose class is a part of itself. Assumes nothing.
 use mathlib.Core.Path.{◌≡◌, refl, ap, sym, subst, ◌∙◌}
 use mathlib.Core.Bool.{Bool, true, false, ◌&&◌, cond}
 use mathlib.Core.List.Memᴰ
 use mathlib.Core.List.{List, [], map, Memᴰ}
 use Prim.Native.Nat.{ℕ, zero, suc, ◌≤◌, ◌<◌}
 use native.Mathlib.Omega.{arith}
-use lib.Dec.{eqb, ltb}
+use lib.Dec.{eqb}
 use lib.ListN.{length, get_or}
-use borrow.Author.Tests.{eq-eqb, eqb-true, ltb-false, ltb-true}
+use borrow.Author.Tests.{eq-eqb, eqb-true}
 use Rattle.laws.specs.All.{All}
 use Rattle.laws.specs.Lists.{any, concat_map, union, when}
 use Rattle.laws.proofs.Bools.{and_both, and_left, and_right, by_test}
@@ -25,8 +25,10 @@ use Rattle.guard.proofs.ClosureState.{Small}
 use Rattle.models.proofs.Ranks.{complete, is-part, reached_keeps}
 use Rattle.tables.specs.Layout.{flat}
 use Rattle.classes.specs.Held.{Held}
-use Rattle.loops.specs.Lowest.{lowest}
-use Rattle.loops.proofs.Loops.{found-same, lowest-here, lowest_nowhere}
+use Rattle.std.specs.declared.option.Option.{Option}
+use Rattle.std.specs.declared.option.Option.TheVariants.{None, Some}
+use Rattle.loops.specs.Lowest.{Finds}
+use Rattle.loops.proofs.Loops.{finds_here, finds_nowhere}
 use Rattle.arrays.specs.Arrays.{fieldless_of, shapes_of, sorts_of}
 use Rattle.arrays.specs.Slots.{active, many_at, sort_at}
 use Rattle.arrays.proofs.DueLaws.{when-is}
@@ -161,21 +163,11 @@ module _ (limits : Limits) (supported : Supported limits) (g : Guard) (ok : Well
           any_of (test x) t.terms (record { term = x; type = u }) (sorts_have.found x u h q)
           (and_both _ _ (eq-eqb x x refl) (is-inside (record { term = x; type = u }) w))
 
-  -- ---- the result: the number of the lowest term whose class is a part of itself, or 78
+  -- ---- the result: the lowest term whose class is a part of itself
 
-  pub named : (r : ℕ) → LowestOf (Inside (shapes_of g) (sorts_of g) s) 78 r → r ≡ lowest (inside_term (table_of g) s) 78
-  named r w =
-      by_test (ltb r 78) (λ b. lowest-here (inside_term t s) 78 r (ltb-true _ _ b) none (is-number r (ltb-true _ _ b) (w.here (ltb-true _ _ b))))
-      (λ b. let z : r ≡ 78 = omega (arith, ltb-false r 78 b, w.most) in z ∙ lowest_nowhere (inside_term t s) 78 r (ltb-false _ _ b) none)
-    where
-      none : (x : ℕ) → x < r → inside_term t s x ≡ false
-      none x h = by_test (inside_term t s x) (λ e. absurd (w.none x h (number_is x e))) (λ e. e)
+  outside : (n : ℕ) → ((x : ℕ) → x < n → ¬ Inside (shapes_of g) (sorts_of g) s x) → (x : ℕ) → x < n → inside_term (table_of g) s x ≡ false
+  outside n w x h = by_test (inside_term t s x) (λ e. absurd (w x h (number_is x e))) (λ e. e)
 
-  pub some-named : (r : ℕ) → LowestOf (Inside (shapes_of g) (sorts_of g) s) 78 r → ltb r 78 ≡ any (inside_itself s (builds_at (table_of g) s)) (table_of g).terms
-  unfolding inside_term
-  some-named r w =
-      ap (λ (k : ℕ). ltb k 78) (named r w)
-      ∙ found-same (inside_itself s bs) t.terms (inside_term t s) 78 (λ x m e. (x.term, (sorts_have.slot x m).0, is-number x.term (sorts_have.slot x m).0 (inside_is x m e))) back
-    where
-      back : (k : ℕ) → k < 78 → inside_term t s k ≡ true → (x : Term) × Memᴰ x t.terms × (inside_itself s bs x ≡ true)
-      back k h e = let (a, m, q) = any_some (test k) t.terms e in (a, m, and_right (eqb a.term k) _ q)
+  pub named : (r : Option ℕ) → LowestOf (Inside (shapes_of g) (sorts_of g) s) 78 r → Finds (inside_term (table_of g) s) 78 r
+  named None w = finds_nowhere (inside_term t s) 78 (outside 78 w)
+  named (Some k) (l, c, w) = finds_here (inside_term t s) 78 k l (outside k w) (is-number k l c)

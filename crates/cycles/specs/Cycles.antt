@@ -1,6 +1,8 @@
 -- Classes that are parts of themselves, by the slots of the problem's arrays, and the lowest such term. proofs/ shows that
 -- they are those of document 01. Assumes nothing: definitions.
-use Rattle.std.specs.Prelude.{◌≡◌, Bool, true, false, ◌&&◌, List, ℕ, ◌≤◌, ◌<◌, eqb}
+use Rattle.std.specs.Prelude.{◌≡◌, Bool, true, false, ◌&&◌, List, ℕ, ◌<◌, eqb}
+use Rattle.std.specs.declared.option.Option.{Option}
+use Rattle.std.specs.declared.option.Option.TheVariants.{None, Some}
 use Rattle.laws.specs.Lists.{any}
 use Rattle.guard.specs.Closure.{State, builds_at, class_of}
 use Rattle.guard.specs.Node.{inside_itself}
@@ -26,8 +28,7 @@ pub record Tells (Claim : Type 0) (r : Bool) : Type 0 where
   pub yes : r ≡ true → Claim
   pub no : r ≡ false → ¬ Claim
 
--- the lowest number below n of which a claim holds, or n if there is none
-pub record LowestOf (Claim : ℕ → Type 0) (n r : ℕ) : Type 0 where
-  pub most : r ≤ n
-  pub here : r < n → Claim r
-  pub none : (x : ℕ) → x < r → ¬ Claim x
+-- the lowest number below n of which a claim holds, or none
+abbrev pub LowestOf : (ℕ → Type 0) → ℕ → Option ℕ → Type 0
+LowestOf Claim n None = (x : ℕ) → x < n → ¬ Claim x
+LowestOf Claim n (Some k) = (k < n) × Claim k × ((x : ℕ) → x < k → ¬ Claim x)

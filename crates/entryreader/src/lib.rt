@@ -5,13 +5,14 @@ ghost use Rattle.std.specs.Prelude.{drop};
 ghost use Rattle.refutations.specs.Checker.{entry};
 ghost use Rattle.entryreader.specs.Entries.{ReadsEntry, entry_by_kind};
 
+use closings::Closing;
 use guard::Question;
 use numbers::{Read, read_number};
 
-// An entry of a record: why a node closes, with the term or the line that it is said of; or the term and the variant of a split.
+// An entry of a record: why a node closes; or the term and the variant of a split.
 #[derive(Clone, Copy)]
 pub enum Entry {
-    Closing { reason: u32, number: u32 },
+    Closing(Closing),
     Split { term: u32, variant: u32 },
 }
 
@@ -20,27 +21,29 @@ fn read_by_kind(bytes: &[u8], at: usize) -> Result<Read<Entry>, Question>
     ensures { ReadsEntry (entry_by_kind (drop at bytes.now)) bytes.now result }
 {
     let k = read_number(bytes, at)?;
-    if k.value < 4 {
-        let n = read_number(bytes, k.at)?;
-        return Ok(Read {
-            value: Entry::Closing {
-                reason: k.value,
-                number: n.value,
-            },
-            at: n.at,
-        });
-    }
-    if k.value != 4 {
+    if 4 < k.value {
         return Err(Question::FalseEntry);
     }
-    let x = read_number(bytes, k.at)?;
-    let v = read_number(bytes, x.at)?;
+    let n = read_number(bytes, k.at)?;
+    let closing = match k.value {
+        0 => Closing::EmptyLabel(n.value),
+        1 => Closing::BrokenLine(n.value),
+        2 => Closing::UnlikeConstants(n.value),
+        3 => Closing::InsideItself(n.value),
+        _ => {
+            let v = read_number(bytes, n.at)?;
+            return Ok(Read {
+                value: Entry::Split {
+                    term: n.value,
+                    variant: v.value,
+                },
+                at: v.at,
+            });
+        }
+    };
     Ok(Read {
-        value: Entry::Split {
-            term: x.value,
-            variant: v.value,
-        },
-        at: v.at,
+        value: Entry::Closing(closing),
+        at: n.at,
     })
 }
 

@@ -40,7 +40,8 @@ use Rattle.arrays.proofs.ActiveSlots.{active-build, build-active}
 use Rattle.constants.specs.Constants.{constant_value, is_constant}
 use Rattle.constants.proofs.ConstantSlots.{ConstantSlot, ConstantSlots, constant_slots}
 use Rattle.splits.specs.Choice.{lowest_in}
-use Rattle.kinds.specs.Found.{constant_of, is_fixed, is_shape, is_single, shape_of, single_of}
+use Rattle.unlikeconstants.specs.Unlike.{is_constant_of}
+use Rattle.kinds.specs.Found.{constant_of, is_shape, is_single, shape_of, single_of}
 
 -- nothing is found where the search went to the end
 none_found : (p : ℕ → Bool) (n : ℕ) → n ≤ lowest p n → (k : ℕ) → k < n → p k ≡ false
@@ -203,8 +204,8 @@ module _ (limits : Limits) (sup : Supported limits) (g : Guard) (ok : WellFormed
     pub sort : get_or (constants_of g) k 0 ≡ suc (term_type g c)
     pub is_const : kind c ≡ const (constant_value values k)
 
-  constant_class_lem : (k c : ℕ) → k < 30 → is_fixed (constants_of g) s.classes c k ≡ true → ConstantClass k c
-  unfolding is_fixed
+  constant_class_lem : (k c : ℕ) → k < 30 → is_constant_of (constants_of g) s.classes c k ≡ true → ConstantClass k c
+  unfolding is_constant_of
   constant_class_lem k c h e = go (constants_have.found k h (eqb-false _ _ (not-true _ (and_left (is_constant (constants_of g) k) _ e))))
     where
       go : (a : Const) × Memᴰ a (table_of g).consts × ConstantSlot (constants_of g) values k a → ConstantClass k c
@@ -217,13 +218,13 @@ module _ (limits : Limits) (sup : Supported limits) (g : Guard) (ok : WellFormed
 
   pub found-constant : (c : ℕ) → constant_of (constants_of g) s.classes c < 30 → ConstantClass (constant_of (constants_of g) s.classes c) c
   unfolding constant_of
-  found-constant c h = constant_class_lem (lowest (is_fixed (constants_of g) s.classes c) 30) c h (found-passes (is_fixed (constants_of g) s.classes c) 30 h)
+  found-constant c h = constant_class_lem (lowest (is_constant_of (constants_of g) s.classes c) 30) c h (found-passes (is_constant_of (constants_of g) s.classes c) 30 h)
 
   pub no-constant-found : (c : ℕ) → 30 ≤ constant_of (constants_of g) s.classes c → (a : Const) → Memᴰ a (table_of g).consts → ¬ (class_of S a.term ≡ c)
-  unfolding constant_of is_fixed
+  unfolding constant_of is_constant_of
   no-constant-found c h a m e =
       let (k, l, slot) = constants_have.slot a m in
-      false≢true (sym (none_found (is_fixed (constants_of g) s.classes c) 30 h k l)
+      false≢true (sym (none_found (is_constant_of (constants_of g) s.classes c) 30 h k l)
       ∙ and_both (is_constant (constants_of g) k) _ (ap not (ne_eqb (get_or (constants_of g) k 0) 0 (λ z. omega (arith, z, slot.type)))) (eq-eqb _ _ (ap (class_of s) slot.term ∙ agree.class a.term (typed.in_range.consts a m) ∙ e)))
 
   -- ---- nothing fixes the class

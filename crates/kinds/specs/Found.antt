@@ -5,9 +5,8 @@ use Rattle.guard.specs.Closure.{State, class_of, label_of}
 use Rattle.guard.specs.Limits.{variant_limit}
 use Rattle.loops.specs.Lowest.{lowest}
 use Rattle.arrays.specs.Slots.{active, only_is, owner_at}
-use Rattle.constants.specs.Constants.{is_constant}
-use Rattle.reasons.specs.Reasons.{constant_class}
 use Rattle.splits.specs.Choice.{lowest_in}
+use Rattle.unlikeconstants.specs.Unlike.{is_constant_of}
 
 -- slot k has a shape of class c; the lowest such slot, 30 where there is none
 unfoldable pub is_shape : List ℕ → State → ℕ → ℕ → Bool
@@ -16,12 +15,9 @@ is_shape shapes s c k = active shapes s k && eqb (class_of s (owner_at shapes k)
 unfoldable pub shape_of : List ℕ → State → ℕ → ℕ
 shape_of shapes s c = lowest (is_shape shapes s c) 30
 
--- slot k has a constant of class c; the lowest such slot, 30 where there is none
-unfoldable pub is_fixed : List ℕ → List ℕ → ℕ → ℕ → Bool
-is_fixed constants classes c k = is_constant constants k && eqb (constant_class classes k) c
-
+-- the lowest slot with a constant of class c, 30 where there is none
 unfoldable pub constant_of : List ℕ → List ℕ → ℕ → ℕ
-constant_of constants classes c = lowest (is_fixed constants classes c) 30
+constant_of constants classes c = lowest (is_constant_of constants classes c) 30
 
 -- term x of class c is of one fieldless variant alone, the lowest of its label; the lowest such term, 78 where there is none
 unfoldable pub is_single : List ℕ → List ℕ → State → ℕ → ℕ → Bool

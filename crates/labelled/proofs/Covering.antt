@@ -1,6 +1,6 @@
 -- A loop over a list that covers a test sees all that passes: the lowest number that passes is the first of the list that does, and
 -- between two numbers of the list nothing passes. Assumes nothing.
-use mathlib.Core.Path.{◌≡◌, ap, sym, ◌∙◌}
+use mathlib.Core.Path.{◌≡◌, ap, subst, sym, ◌∙◌}
 use mathlib.Core.Bool.{Bool, true, false, false≢true}
 use mathlib.Core.List.{List}
 use Prim.Native.Nat.{ℕ, ◌+◌, ◌≤◌, ◌<◌}
@@ -13,10 +13,11 @@ use Rattle.std.proofs.lemmas.List.{get_or-take, length-take-le}
 use Rattle.laws.specs.Lists.{any, from}
 use Rattle.laws.proofs.Bools.{by_test, or_left, or_right}
 use Rattle.laws.proofs.Lists.{any_of, any_some, from_bounds, mem_from}
+use Rattle.std.specs.declared.option.Option.{Option}
 use Rattle.std.specs.declared.option.Option.TheVariants.{None, Some}
 use Rattle.loops.specs.Lowest.{Finds, lowest}
-use Rattle.loops.proofs.Loops.{NoneBelow, lowest-here, lowest_nowhere}
-use Rattle.labelled.specs.Covers.{Covers, Lists, has_label, has_mask}
+use Rattle.loops.proofs.Loops.{NoneBelow, finds_here, finds_nowhere, lowest-here, lowest_nowhere}
+use Rattle.labelled.specs.Covers.{Covers, FirstListed, Lists, has_label, has_mask}
 
 -- where a number stands in a list, as a test of all places and as a place
 module _ (list : List ℕ) (many x : ℕ) where
@@ -66,6 +67,26 @@ module _ (p : ℕ → Bool) (n : ℕ) (list : List ℕ) (many : ℕ) (l : Lists 
         past = λ i h. get_or-eq_default (take many list) 0 {n = i} (omega (arith, front-length));
       })
 
+-- ---- the first call that says true, of those for the numbers of a list
+
+module _ (post : ℕ → Bool → Type 0) (p : ℕ → Bool) (n : ℕ) (list : List ℕ) (many : ℕ) (c : Covers p n list many) where
+  pub first-listed : (i : ℕ) → i < many → ((j : ℕ) → j < i → post (get_or list j 0) false) → post (get_or list i 0) true → FirstListed post p n (Some (get_or list i 0))
+  first-listed i h before t = (c.below i h, t, λ y l e. let (j, m, q) = place list many y (c.every y (omega (arith, c.below i h)) e) in subst (λ z. post z false) q (before j (before-here j y m q l)))
+    where
+      before-here : (j y : ℕ) → j < many → get_or list j 0 ≡ y → y < get_or list i 0 → j < i
+      before-here j y m q l =
+          by_test (ltb j i) (λ t. ltb-true j i t)
+          (λ t. absurd (by_test (eqb i j) (λ e. omega (arith, q, l, ap (λ (k : ℕ). get_or list k 0) (eqb-true i j e))) (λ e. omega (arith, q, l, c.rising i j (omega (arith, ltb-false j i t, eqb-false i j e)) m))))
+
+  pub none-first : (i : ℕ) → many ≤ i → ((j : ℕ) → j < i → post (get_or list j 0) false) → FirstListed post p n None
+  none-first i h before = λ x l e. let (j, m, q) = place list many x (c.every x l e) in subst (λ z. post z false) q (before j (omega (arith, m)))
+
+-- calls of a function that computes a test which only numbers of the list pass find what the test does
+pub listed_finds : (post : ℕ → Bool → Type 0) (p q : ℕ → Bool) (n : ℕ) (r : Option ℕ) → ((x : ℕ) (b : Bool) → x < n → post x b → b ≡ p x) → ((x : ℕ) → p x ≡ true → q x ≡ true) → FirstListed post q n r → Finds p n r
+listed_finds post p q n None same less f = finds_nowhere p n (λ x h. by_test (p x) (λ e. absurd (false≢true (same x false h (f x h (less x e)) ∙ e))) (λ e. e))
+listed_finds post p q n (Some x) same less (l, t, f) =
+    finds_here p n x l (λ y h. by_test (p y) (λ e. absurd (false≢true (same y false (omega (arith, h, l)) (f y h (less y e)) ∙ e))) (λ e. e)) (sym (same x true l t))
+
 -- ---- how far a loop has come
 
 -- nothing among the first i numbers of the list passes
@@ -109,12 +130,6 @@ module _ (p : ℕ → Bool) (n : ℕ) (list : List ℕ) (many : ℕ) (c : Covers
 
   pub listed_nowhere : (i : ℕ) → many ≤ i → NoneListed p list i → n ≡ lowest p n
   listed_nowhere i l h = lowest_nowhere p n n (omega arith) (none_below i n (omega arith) h (λ j o m. absurd (omega arith)))
-
-  pub listed_finds : (i : ℕ) → i < many → NoneListed p list i → p (get_or list i 0) ≡ true → Finds p n (Some (get_or list i 0))
-  listed_finds i l h e = (c.below i l, listed_here i l h e)
-
-  pub listed_none : (i : ℕ) → many ≤ i → NoneListed p list i → Finds p n None
-  listed_none i l h = sym (listed_nowhere i l h)
 
   -- ---- between the numbers of the list
 

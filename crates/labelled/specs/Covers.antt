@@ -1,5 +1,7 @@
 -- Lists of the numbers that pass a test, and the terms that have a label. Assumes nothing: definitions.
-use Rattle.std.specs.Prelude.{◌≡◌, Bool, true, not, ◌||◌, List, ℕ, ◌≤◌, ◌<◌, eqb, get_or}
+use Rattle.std.specs.Prelude.{◌≡◌, Bool, true, false, not, ◌||◌, List, ℕ, ◌≤◌, ◌<◌, eqb, get_or}
+use Rattle.std.specs.declared.option.Option.{Option}
+use Rattle.std.specs.declared.option.Option.TheVariants.{None, Some}
 use Rattle.laws.specs.Lists.{any, from}
 use Rattle.arrays.specs.Slots.{sort_at}
 
@@ -24,3 +26,8 @@ pub record Lists (p : ℕ → Bool) (n : ℕ) (list : List ℕ) (many : ℕ) : T
   pub covers : Covers p n list many
   pub passes : (i : ℕ) → i < many → p (get_or list i 0) ≡ true
   pub past : (i : ℕ) → many ≤ i → get_or list i 0 ≡ 0
+
+-- the first call that says true, of calls for the numbers below n that a list has
+abbrev pub FirstListed : (ℕ → Bool → Type 0) → (ℕ → Bool) → ℕ → Option ℕ → Type 0
+FirstListed post listed n None = (x : ℕ) → x < n → listed x ≡ true → post x false
+FirstListed post listed n (Some x) = (x < n) × post x true × ((y : ℕ) → y < x → listed y ≡ true → post y false)

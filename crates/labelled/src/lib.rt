@@ -3,7 +3,7 @@
 
 ghost use Rattle.std.specs.Prelude.{◌≡◌, ◌<◌, length};
 ghost use Rattle.arrays.specs.Slots.{SortsFit, fieldless_at, only_is};
-ghost use Rattle.labelled.specs.Covers.{Covers, Lists, has_label, has_mask};
+ghost use Rattle.labelled.specs.Covers.{Covers, FirstListed, Lists, has_label, has_mask};
 
 use classes::State;
 
@@ -63,6 +63,19 @@ impl Sorts {
         ensures fieldless { Covers (has_mask self.now.sorts self.now.fieldless) 78 result.now (length result.now) }
     {
         &self.listed[..self.count]
+    }
+
+    // The lowest term that passes, of those that have a label.
+    pub fn lowest_labelled<F: Fn(u8) -> bool>(&self, passes: F) -> Option<u8>
+        requires { (x : _) → x < 78 → F.pre passes x }
+        ensures { FirstListed (F.post passes) (has_label self.now.sorts self.now.full self.now.fieldless) 78 result }
+    {
+        for &x in self.labelled() {
+            if passes(x) {
+                return Some(x);
+            }
+        }
+        None
     }
 
     // All variants of a term's type.

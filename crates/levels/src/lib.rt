@@ -2,69 +2,45 @@
 #![tactic(auto)]
 
 ghost use Rattle.std.specs.Prelude.{◌≡◌, not, ◌<◌};
-ghost use Rattle.classes.specs.Held.{Held, state};
-ghost use Rattle.arrays.specs.Slots.{ShapesFit, many_at};
-ghost use Rattle.ranks.specs.Ranks.{own_class, ranking_of};
+ghost use Rattle.arrays.specs.Slots.{many_at};
+ghost use Rattle.ranks.specs.Ranks.{ranking_of};
 ghost use Rattle.levels.specs.Levels.{InOrder, LastInOrder, LowestPart, Sunk, bottomed};
 
+use classes::State;
 use ranks::rank_at;
+use slots::Shapes;
 
 // The lowest level of the parts of shape k, which has some.
-fn lowest_part(
-    classes: &[u8; 96],
-    shapes: &[u16; 256],
-    levels: &[u8; 96],
-    k: usize,
-    many: usize,
-) -> u8
+fn lowest_part(state: &State, shapes: &Shapes, levels: &[u8; 96], k: usize, many: usize) -> u8
     requires k_bound { k < 30 }
-    requires held { Held classes.now }
-    requires shapes_fit { ShapesFit shapes.now }
-    requires many_value { (many ≡ many_at shapes.now k) × (0 < many) }
-    ensures { LowestPart shapes.now classes.now levels.now k many result }
+    requires many_value { (many ≡ many_at shapes.now.slots k) × (0 < many) }
+    ensures { LowestPart shapes.now.slots state.now.classes levels.now k many result }
 {
-    let mut low = rank_at(classes, levels, slots::part(shapes, k, 0));
+    let mut low = rank_at(state, levels, shapes.part(k, 0));
     for p in 1..many {
-        low = low.min(rank_at(classes, levels, slots::part(shapes, k, p)));
+        low = low.min(rank_at(state, levels, shapes.part(k, p)));
     }
     low
 }
 
-fn own_class(classes: &[u8; 96], shapes: &[u16; 256], k: usize) -> usize
-    requires k_bound { k < 30 }
-    requires held { Held classes.now }
-    requires shapes_fit { ShapesFit shapes.now }
-    ensures { result ≡ own_class shapes.now classes.now k }
-{
-    classes::class_of(classes, slots::owner(shapes, k)) as usize
-}
-
 // The class of shape k sinks to one below its lowest part if it is not below it; true if so.
-fn sink(
-    classes: &[u8; 96],
-    labels: &[u16; 96],
-    shapes: &[u16; 256],
-    levels: &mut [u8; 96],
-    k: usize,
-) -> bool
-    requires k_bound { k < 30 }
-    requires held { Held classes.now }
-    requires shapes_fit { ShapesFit shapes.now }
-    ensures { Sunk shapes.now (state classes.now labels.now) (InOrder shapes.now (state classes.now labels.now) k) levels.old levels.new result }
+fn sink(state: &State, shapes: &Shapes, levels: &mut [u8; 96], k: usize) -> bool
+    requires { k < 30 }
+    ensures { Sunk shapes.now.slots state.now (InOrder shapes.now.slots state.now k) levels.old levels.new result }
 {
-    let many = slots::many(shapes, k);
+    let many = shapes.many(k);
     if many == 0 {
         return false;
     }
-    let low = lowest_part(classes, shapes, levels, k, many);
+    let low = lowest_part(state, shapes, levels, k, many);
     if low == 0 {
         return false;
     }
-    let c = own_class(classes, shapes, k);
+    let c = state.class_of(shapes.owner(k)) as usize;
     if levels[c] < low {
         return false;
     }
-    if !slots::active(classes, labels, shapes, k) {
+    if !shapes.active(state, k) {
         return false;
     }
     levels[c] = low - 1;
@@ -72,19 +48,12 @@ fn sink(
 }
 
 // One round, from the last shape to the first: what is read from a row comes after it. True if a class sank.
-fn sink_all(
-    classes: &[u8; 96],
-    labels: &[u16; 96],
-    shapes: &[u16; 256],
-    levels: &mut [u8; 96],
-) -> bool
-    requires held { Held classes.now }
-    requires shapes_fit { ShapesFit shapes.now }
-    ensures { Sunk shapes.now (state classes.now labels.now) (LastInOrder shapes.now (state classes.now labels.now) 30) levels.old levels.new result }
+fn sink_all(state: &State, shapes: &Shapes, levels: &mut [u8; 96]) -> bool
+    ensures { Sunk shapes.now.slots state.now (LastInOrder shapes.now.slots state.now 30) levels.old levels.new result }
 {
     let mut any = false;
     for k in (0..30).rev() {
-        any |= sink(classes, labels, shapes, levels, k);
+        any |= sink(state, shapes, levels, k);
     }
     any
 }
@@ -98,12 +67,11 @@ fn is_bottomed(levels: &[u8; 96]) -> bool
 }
 
 // Whether a class is a part of itself.
-pub fn is_cyclic(classes: &[u8; 96], labels: &[u16; 96], shapes: &[u16; 256]) -> bool
-    requires held { Held classes.now }
-    requires shapes_fit { ShapesFit shapes.now }
-    ensures { result ≡ not (ranking_of shapes.now (state classes.now labels.now)).falls }
+pub fn is_cyclic(state: &State, shapes: &Shapes) -> bool
+    ensures { result ≡ not (ranking_of shapes.now.slots state.now).falls }
 {
+    state.held();
     let mut levels = [31u8; 96];
-    while sink_all(classes, labels, shapes, &mut levels) {}
+    while sink_all(state, shapes, &mut levels) {}
     is_bottomed(&levels)
 }

@@ -7,11 +7,12 @@ use native.Mathlib.Nat.{add-zero}
 use native.Mathlib.Omega.{arith}
 use lib.Dec.{eqb, ltb}
 use borrow.Author.Count.{below_more, below_none}
-use borrow.Author.Tests.{eq-eqb, ne_eqb, ltb-true, ltb-false}
+use borrow.Author.Tests.{eq-eqb, le-ltb, lt-ltb, ne_eqb, ltb-true, ltb-false}
 use Rattle.laws.specs.Lists.{any, from}
 use Rattle.laws.proofs.Bools.{by_test, or_left, or_right}
 use Rattle.laws.proofs.Lists.{any_of, any_some, from_bounds, mem_from}
 use Rattle.laws.proofs.Positions.{least, least_first, least_le, least_most, least_passes}
+use Rattle.std.specs.Prelude.{is_some}
 use Rattle.std.specs.declared.option.Option.{Option}
 use Rattle.std.specs.declared.option.Option.TheVariants.{None, Some}
 use Rattle.loops.specs.Lowest.{Finds, FirstPassing, SomePassing, lowest}
@@ -66,6 +67,11 @@ module _ (p : ℕ → Bool) where
   pub finds_past : (n k : ℕ) → k ≡ lowest p n → n ≤ k → Finds p n None
   unfolding lowest
   finds_past n k e l = omega (arith, e, least_most p n)
+
+  -- whether there is one
+  pub finds_test : (n : ℕ) (r : Option ℕ) → Finds p n r → is_some r ≡ ltb (lowest p n) n
+  finds_test n None e = sym (le-ltb (lowest p n) n (omega (arith, e)))
+  finds_test n (Some k) e = sym (lt-ltb (lowest p n) n (omega (arith, e.0, e.1)))
 
   -- calls of a function that computes the test find what the test does
   pub finds : (post : ℕ → Bool → Type 0) (n : ℕ) (r : Option ℕ) → ((k : ℕ) (b : Bool) → k < n → post k b → b ≡ p k) → FirstPassing post n r → Finds p n r

@@ -11,12 +11,15 @@ use native.Mathlib.Omega.{arith}
 use lib.Dec.{eqb, ltb}
 use lib.ListN.{get_or-eq_default, get_or, get_or-replicate, length, length-replicate, length-set, replicate, set}
 use borrow.Author.Tests.{eqb-false, eqb-true, ltb-false, ltb-true, not-false, not-true}
+use Rattle.std.specs.Option.{is_some}
+use Rattle.std.specs.declared.option.Option.{Option}
+use Rattle.std.specs.declared.option.Option.TheVariants.{None}
 use Rattle.laws.specs.Lists.{sum}
 use Rattle.laws.proofs.Bools.{by_test, either, or_cases, or_false}
 use Rattle.laws.proofs.Stores.{set_cases, set_ind, set_same, sum-set_le, sum-set_lt}
 use Rattle.guard.specs.Closure.{State, class_of}
-use Rattle.arrays.specs.Slots.{active, many_at, owner_at}
-use Rattle.needed.specs.Needed.{AllFollowed, Followed, Leads, Marked, Marks, Needed, Needed.of_part, Needed.of_row, PartMarked, Pass, Steps, Steps.done, Steps.then, UpTo, no_class, no_marks, own_class, part_class, row_marks}
+use Rattle.arrays.specs.Slots.{active, many_at}
+use Rattle.needed.specs.Needed.{AllFollowed, Followed, Leads, Marked, Marks, Needed, Needed.of_part, Needed.of_row, PartMarked, Pass, Steps, Steps.done, Steps.then, UpTo, no_marks, own_class, part_class, row_marks}
 
 -- ---- one mark
 
@@ -41,7 +44,7 @@ pub rows_next : (classes l now next : List ℕ) (i : ℕ) → now ≡ row_marks 
 unfolding row_marks
 rows_next classes l now next i e q = q ∙ ap (λ (m : List ℕ). set m (get_or classes i 0) 0) e ∙ ap (λ (k : ℕ). row_marks classes k l) (sym (add-one i))
 
-module _ (shapes : List ℕ) (s : State) (start : ℕ) where
+module _ (shapes : List ℕ) (s : State) (start : Option ℕ) where
   -- ---- steps
 
   module _ {l : List ℕ} where
@@ -106,18 +109,9 @@ module _ (shapes : List ℕ) (s : State) (start : ℕ) where
   pub not_active : (k : ℕ) (l : List ℕ) → active shapes s k ≡ false → Pass shapes s start (Followed shapes s start k) l l false
   not_active k l e = skipped (Followed shapes s start k) l (λ a o. absurd (false≢true (sym e ∙ a)))
 
-  -- the test of the shape's term
-  module _ (k x : ℕ) (l : List ℕ) {r : Bool} (e : r ≡ (eqb (class_of s x) start || eqb (get_or l (class_of s x) 0) 0)) (q : x ≡ owner_at shapes k) where
-    pub leads-yes : r ≡ true → Leads start l (own_class shapes s k)
-    leads-yes t = subst (λ (y : ℕ). Leads start l (class_of s y)) q (either (λ z. inr (eqb-true _ _ z)) (λ z. inl (eqb-true _ _ z)) (or_cases (eqb (class_of s x) start) (eqb (get_or l (class_of s x) 0) 0) (sym e ∙ t)))
-
-    leads-no : r ≡ false → ¬ Leads start l (own_class shapes s k)
-    leads-no f w =
-        let (a, b) = or_false (eqb (class_of s x) start) (eqb (get_or l (class_of s x) 0) 0) (sym e ∙ f) in
-        either (λ z. eqb-false _ _ b z) (λ z. eqb-false _ _ a z) (subst (λ (y : ℕ). Leads start l (class_of s y)) (sym q) w)
-
-    pub not_led : r ≡ false → Pass shapes s start (Followed shapes s start k) l l false
-    not_led f = skipped (Followed shapes s start k) l (λ a o. absurd (leads-no f o))
+  -- nor has one whose class is not to be followed
+  pub not_led : (k : ℕ) (l : List ℕ) → ¬ Leads start l (own_class shapes s k) → Pass shapes s start (Followed shapes s start k) l l false
+  not_led k l n = skipped (Followed shapes s start k) l (λ a o. absurd (n o))
 
   pub followed : (k : ℕ) {l m : List ℕ} {r : Bool} → Pass shapes s start (UpTo (PartMarked shapes s k) (many_at shapes k)) l m r → Pass shapes s start (Followed shapes s start k) l m r
   followed k p = record { steps = p.steps; falls = p.falls; quiet = λ e. ((p.quiet e).0, λ a o. (p.quiet e).1) }
@@ -180,18 +174,18 @@ module _ (shapes : List ℕ) (s : State) where
 
     module _ (inside : (x : ℕ) → class_of s x < 96) where
       -- no class to start from: what leads is marked
-      led : (l : List ℕ) (x : ℕ) → Leads no_class l (class_of s x) → Marked l (class_of s x)
-      led l x (inl e) = e
-      led l x (inr e) = absurd (omega (arith, e, inside x))
+      led : (l : List ℕ) (c : ℕ) → Leads None l c → Marked l c
+      led l c (inl e) = e
+      led l c (inr e) = absurd (false≢true (ap is_some e))
 
-      steps_sound : (n : ℕ) {l m : List ℕ} → Steps shapes s no_class l m → Sound n l → Sound n m
+      steps_sound : (n : ℕ) {l m : List ℕ} → Steps shapes s None l m → Sound n l → Sound n m
       steps_sound n done w = w
       steps_sound n (then {next = m} a k p hk hp e o) w =
           let v : Sound n m = steps_sound n a w in
-          mark_sound n (part_class shapes s k p) m (of_part k p hk hp e (v.only (own_class shapes s k) (inside _) (led m (owner_at shapes k) o)) refl) v
+          mark_sound n (part_class shapes s k p) m (of_part k p hk hp e (v.only (own_class shapes s k) (inside _) (led m (own_class shapes s k) o)) refl) v
 
       -- where nothing is left to mark, all that is needed is marked
-      marks-done : (l : List ℕ) → AllFollowed shapes s no_class (row_marks s.classes rows no_marks) l → Marks shapes s rows l
+      marks-done : (l : List ℕ) → AllFollowed shapes s None (row_marks s.classes rows no_marks) l → Marks shapes s rows l
       marks-done l f = record { long = w.long; only = w.only; each = λ c need. each need; bits = w.bits }
         where
           w : Sound rows l
@@ -201,5 +195,6 @@ module _ (shapes : List ℕ) (s : State) where
           each (of_row i h q) = subst (Marked l) q (w.rows_marked i h)
           each (of_part k p hk hp e need q) = subst (Marked l) q (f.all k hk e (inl (each need)) p hp)
 
-      pub needed_marks : {l m n : List ℕ} → l ≡ no_marks → m ≡ row_marks s.classes rows l → AllFollowed shapes s no_class m n → Marks shapes s rows n
-      needed_marks {n = n} e q f = marks-done n (subst (λ (m : List ℕ). AllFollowed shapes s no_class m n) (q ∙ ap (row_marks s.classes rows) e) f)
+      pub needed_marks : {m n : List ℕ} → m ≡ row_marks s.classes rows (replicate 96 1) → AllFollowed shapes s None m n → Marks shapes s rows n
+      unfolding no_marks
+      needed_marks {n = n} e f = marks-done n (subst (λ (m : List ℕ). AllFollowed shapes s None m n) e f)

@@ -1,6 +1,8 @@
 -- The classes that get a message at a state: those of rows, and of the parts of what gets one. And what a pass that marks
 -- parts of marked classes has to show. Assumes nothing: definitions.
 use Rattle.std.specs.Prelude.{◌≡◌, Bool, true, false, List, ◌⊎◌, ℕ, zero, suc, ◌<◌, get_or, length, replicate, set}
+use Rattle.std.specs.declared.option.Option.{Option}
+use Rattle.std.specs.declared.option.Option.TheVariants.{Some}
 use Rattle.laws.specs.Lists.{sum}
 use Rattle.guard.specs.Closure.{State, class_of}
 use Rattle.arrays.specs.Slots.{active, many_at, owner_at, part_at}
@@ -36,13 +38,9 @@ unfoldable pub row_marks : List ℕ → ℕ → List ℕ → List ℕ
 row_marks classes zero marks = marks
 row_marks classes (suc i) marks = set (row_marks classes i marks) (get_or classes i 0) 0
 
--- the parts of class c are to be marked: it is marked, or is the one to start from
-abbrev pub Leads : ℕ → List ℕ → ℕ → Type 0
-Leads start marks c = Marked marks c ⊎ (c ≡ start)
-
--- what stands for no class to start from
-abbrev pub no_class : ℕ
-no_class = 96
+-- the parts of class c are to be marked: it is marked, or is the one to start from if there is one
+abbrev pub Leads : Option ℕ → List ℕ → ℕ → Type 0
+Leads start marks c = Marked marks c ⊎ (start ≡ Some c)
 
 -- a claim about marks, for the first n numbers
 abbrev pub UpTo : (ℕ → List ℕ → Type 0) → ℕ → List ℕ → Type 0
@@ -52,7 +50,7 @@ UpTo Claim n marks = (j : ℕ) → j < n → Claim j marks
 abbrev pub PartMarked : List ℕ → State → ℕ → ℕ → List ℕ → Type 0
 PartMarked shapes s k p marks = Marked marks (part_class shapes s k p)
 
-module _ (shapes : List ℕ) (s : State) (start : ℕ) where
+module _ (shapes : List ℕ) (s : State) (start : Option ℕ) where
   -- steps that mark, one by one, parts of what is marked or of the class to start from
   pub data Steps (marks : List ℕ) : List ℕ → Type 0 where
     done : Steps marks marks

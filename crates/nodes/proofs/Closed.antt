@@ -9,12 +9,12 @@ use Rattle.guard.specs.Closure.{State}
 use Rattle.loops.specs.Lowest.{lowest}
 use Rattle.loops.proofs.Loops.{lowest-none}
 use Rattle.reasons.specs.Reasons.{empty_at}
-use Rattle.nodes.specs.Closed.{closed_by}
+use Rattle.nodes.specs.Closed.{closed, closed_by}
+use Rattle.instance.specs.declared.Instance.{Instance}
 
-pub none-empty : (shapes sorts full constants : List ℕ) (values : List ℤ) (kinds terms others : List ℕ) (many : ℕ) (s : State)
-    → closed_by shapes sorts full constants values kinds terms others many s ≡ false → lowest (empty_at sorts full s) 78 ≡ 78
+pub none-empty : (i : Instance) (s : State) → closed i s ≡ false → lowest (empty_at i.sorts.sorts i.sorts.full s) 78 ≡ 78
 unfolding closed_by
-none-empty shapes sorts full constants values kinds terms others many s e = lowest-none (empty_at sorts full s) 78 (neither (ltb (lowest (empty_at sorts full s) 78) 78) _ e)
+none-empty i s e = lowest-none (empty_at i.sorts.sorts i.sorts.full s) 78 (neither (ltb (lowest (empty_at i.sorts.sorts i.sorts.full s) 78) 78) _ e)
   where
     neither : (a b : Bool) → (a || b) ≡ false → a ≡ false
     neither true b e = e

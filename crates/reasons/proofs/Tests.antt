@@ -1,12 +1,14 @@
--- A list of all terms of variant type has all whose label is empty. Assumes nothing.
+-- A term with an empty label is one of variant type. Assumes nothing.
+use mathlib.Core.Path.{◌≡◌}
+use mathlib.Core.Bool.{true}
 use mathlib.Core.List.{List}
 use Prim.Native.Nat.{ℕ}
-use Rattle.laws.proofs.Bools.{and_left}
-use Rattle.guard.specs.Closure.{State}
-use Rattle.labelled.specs.Covers.{Covers, has_mask}
-use Rattle.labelled.proofs.Covering.{covers_less}
+use Rattle.laws.proofs.Bools.{and_left, or_left}
+use lib.Dec.{eqb}
+use Rattle.guard.specs.Closure.{State, label_of}
+use Rattle.labelled.specs.Covers.{has_label, has_mask}
 use Rattle.reasons.specs.Reasons.{empty_at}
 
-pub empty_covered : (sorts full : List ℕ) (s : State) {list : List ℕ} {many : ℕ} → Covers (has_mask sorts full) 78 list many → Covers (empty_at sorts full s) 78 list many
-unfolding empty_at has_mask
-empty_covered sorts full s = covers_less (empty_at sorts full s) (λ x e. and_left _ _ e)
+pub empty_has_label : (sorts full fieldless : List ℕ) (s : State) (x : ℕ) → empty_at sorts full s x ≡ true → has_label sorts full fieldless x ≡ true
+unfolding empty_at has_label has_mask
+empty_has_label sorts full fieldless s x e = or_left (has_mask sorts full x) (has_mask sorts fieldless x) (and_left (has_mask sorts full x) (eqb (label_of s x) 0) e)

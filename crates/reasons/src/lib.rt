@@ -25,15 +25,11 @@ pub fn is_empty(state: &State, sorts: &Sorts, x: u8) -> bool
 }
 
 // The lowest term of variant type with an empty label.
+#[tactic(auto, using(labelled::proofs::Covering::listed_finds, crate::proofs::Tests::empty_has_label))]
 pub fn empty_label(state: &State, sorts: &Sorts) -> Option<u8>
     ensures { Finds (empty_at sorts.now.sorts sorts.now.full state.now) 78 result }
 {
-    for &x in sorts.labelled() {
-        if is_empty(state, sorts, x) {
-            return Some(x);
-        }
-    }
-    None
+    sorts.lowest_labelled(|x| is_empty(state, sorts, x))
 }
 
 // ---- unequal lines

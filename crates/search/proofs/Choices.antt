@@ -10,12 +10,12 @@ use native.Mathlib.Omega.{arith}
 use lib.Bits.{bit_and}
 use lib.Dec.{eqb, leb, ltb}
 use lib.ListN.{length, get_or}
-use borrow.Author.Tests.{eqb-false, leb-true, ltb-true, ne_eqb, not-true}
+use borrow.Author.Tests.{eqb-false, eqb-true, leb-true, ltb-true, ne_eqb, not-true}
 use Rattle.laws.specs.Bits.{bit}
 use Rattle.laws.specs.Lists.{filter, from}
 use Rattle.laws.proofs.Bits.{and_one}
 use Rattle.laws.proofs.Bools.{and_both, and_left, and_right}
-use Rattle.laws.proofs.Lists.{filter-is, from_bounds, none-some}
+use Rattle.laws.proofs.Lists.{any_some, filter-is, from_bounds, none-some}
 use Rattle.laws.proofs.Positions.{least_passes}
 use Rattle.guard.specs.Closure.{State, label_of, lacks}
 use Rattle.guard.specs.Limits.{variant_limit}
@@ -38,7 +38,9 @@ holds-both s i v a b = and_both (not (lacks s i v)) _ (ap not (ne_eqb _ _ a)) (a
 module _ (reads : List ℕ) (fit : ReadsFit reads) (s : State) where
   on_read_lem : (k : ℕ) → k < 24 → read_splits reads s k ≡ true → Chosen s (on_read_at reads k)
   unfolding read_splits
-  on_read_lem k h e = go (fit.bit k h key)
+  on_read_lem k h e =
+      let (v, m, b) = any_some (λ v. eqb (read_bit reads k) (2 ^ v)) (from variant_limit 0) (fit.bit k h key) in
+      go (v, omega (arith, (from_bounds variant_limit 0 v m).1), eqb-true _ _ b)
     where
       label : ℕ
       label = label_of s (read_term reads k)

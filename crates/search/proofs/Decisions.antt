@@ -1,23 +1,22 @@
 -- The decision that code takes: it is the chosen one, its children begin with it, and at both the falling number is lower.
 -- Assumes nothing.
 use mathlib.Core.Path.{◌≡◌, refl, ap, sym, ◌∙◌, ap₂}
-use mathlib.Core.Bool.{Bool, true, false}
 use mathlib.Core.List.{List}
 use mathlib.Core.Option.{some}
 use Prim.Native.Nat.{ℕ, ◌-◌, ◌^◌, ◌≤◌, ◌<◌}
 use native.Mathlib.Omega.{arith}
 use lib.Dec.{leb}
-use lib.ListN.{length, length-set}
+use lib.ListN.{get_or, length}
 use borrow.Author.Tests.{leb-true}
 use Rattle.laws.specs.Lists.{from}
 use Rattle.laws.proofs.Lists.{all_true_inv, mem_from}
-use Rattle.guard.specs.Closure.{Fact, Fact.same, Fact.within, State, add, class_of, every_variant, merge_unless, same_class}
+use Rattle.guard.specs.Closure.{Fact.within, State, add, class_of, every_variant}
 use Rattle.guard.specs.Limits.{variant_limit}
 use Rattle.guard.specs.Node.{Split}
-use Rattle.guard.proofs.ClosureState.{Keeps, add_small}
-use Rattle.classes.proofs.ClassLaws.{held_after}
-use Rattle.passes.specs.Pass.{Due, Steps, Steps.done, Steps.then}
+use Rattle.guard.proofs.ClosureState.{Keeps, Small}
+use Rattle.classes.specs.Held.{Held}
 use Rattle.arrays.specs.Slots.{ReadsFit}
+use Rattle.std.specs.declared.option.Option.TheVariants.{Some}
 use Rattle.splits.specs.declared.Choice.{Choice}
 use Rattle.splits.specs.Choice.{choice_of, first_by, split_by}
 use Rattle.search.specs.Nodes.{StateFit}
@@ -25,45 +24,33 @@ use Rattle.search.proofs.Choices.{Chosen, chosen}
 use Rattle.search.proofs.Measure.{is-lower, isnt-lower, label_sum, sum_le}
 use Rattle.search.proofs.VisitLaws.{a_choice}
 
--- ---- the arrays stay as they have to be
-
-pub fit-add : (s : State) (f : Fact) → StateFit s → StateFit (add s f)
-fit-add s f h = record { held = held_after s f h.held; long = labels-long s f ∙ h.long; small = add_small s h.small f }
-  where
-    united : (b : Bool) (i j : ℕ) → length (merge_unless b s i j).labels ≡ length s.labels
-    united true i j = refl
-    united false i j = length-set s.labels _ _
-
-    labels-long : (x : State) (f : Fact) → length (add s f).labels ≡ length s.labels
-    labels-long x (same i j) = united (same_class s i j) (class_of s i) (class_of s j)
-    labels-long x (within i m) = length-set s.labels _ _
-
-pub fit-steps : {due : Due} {s s' : State} → Steps due s s' → StateFit s → StateFit s'
-fit-steps done h = h
-fit-steps (then {s' = x} p f m) h = fit-add x f (fit-steps p h)
+-- what every state is
+pub state_fit : (s : State) → Held s.classes → length s.labels ≡ 96 → ((c : ℕ) → get_or s.labels c 0 < 65536) → StateFit s
+unfolding Small
+state_fit s held long small = record { held = held; long = long; small = small }
 
 -- one bit of 16
 pub bit-most : (v : ℕ) → v < variant_limit → 2 ^ v ≤ 65535
 bit-most v h = leb-true _ _ (all_true_inv (λ u. leb (2 ^ u) 65535) (from 16 0) refl v (mem_from 16 0 v (omega arith) (omega arith)))
 
-module _ (reads sorts fieldless : List ℕ) (fit : ReadsFit reads) (s : State) (c : Choice) (e : c ≡ choice_of (first_by reads s) (split_by reads sorts fieldless s)) (f : c.found ≡ true) where
+module _ (reads sorts fieldless : List ℕ) (fit : ReadsFit reads) (s : State) (c : Choice) (e : Some c ≡ choice_of (first_by reads s) (split_by reads sorts fieldless s)) where
   pub decision : Split
-  decision = (a_choice c (first_by reads s) (split_by reads sorts fieldless s) e f).0
+  decision = (a_choice c (first_by reads s) (split_by reads sorts fieldless s) e).0
 
   pub is-decided : split_by reads sorts fieldless s ≡ some decision
   unfolding decision
-  is-decided = (a_choice c (first_by reads s) (split_by reads sorts fieldless s) e f).1
+  is-decided = (a_choice c (first_by reads s) (split_by reads sorts fieldless s) e).1
 
   same-term : c.term ≡ decision.term
   unfolding decision
-  same-term = (a_choice c (first_by reads s) (split_by reads sorts fieldless s) e f).2
+  same-term = (a_choice c (first_by reads s) (split_by reads sorts fieldless s) e).2
 
   same_variant : c.variant ≡ decision.variant
   unfolding decision
-  same_variant = (a_choice c (first_by reads s) (split_by reads sorts fieldless s) e f).3
+  same_variant = (a_choice c (first_by reads s) (split_by reads sorts fieldless s) e).3
 
   pub same_kind : first_by reads s ≡ c.first
-  same_kind = sym (a_choice c (first_by reads s) (split_by reads sorts fieldless s) e f).4
+  same_kind = sym (a_choice c (first_by reads s) (split_by reads sorts fieldless s) e).4
 
   on : Chosen s decision
   on = chosen reads fit s sorts fieldless decision is-decided

@@ -1,13 +1,12 @@
 -- What a visit of a node gives, case by case: no node left, a closed node, an open one, and a split with its children's
 -- outcomes. Assumes nothing.
 use mathlib.Core.Path.{◌≡◌, refl, ap, sym, ◌∙◌, subst, ap₂}
-use mathlib.Core.Bool.{Bool, true, false, false≢true}
+use mathlib.Core.Bool.{Bool, true, false}
 use mathlib.Core.List.{List, ◌∷◌}
 use mathlib.Core.Option.{Option, none, some}
 use Prim.Native.Nat.{ℕ, ◌-◌, ◌^◌, ◌<◌}
 use native.Mathlib.Omega.{arith}
 use lib.Dec.{ltb}
-use lib.IntN.{ℤ}
 use borrow.Author.Tests.{ltb-true}
 use Rattle.laws.proofs.Bools.{by_test}
 use Rattle.guard.specs.Closure.{Fact.within, State, add, closure_of, every_variant}
@@ -26,9 +25,11 @@ use Rattle.arrays.specs.Arrays.{fieldless_of, reads_of, shapes_of, sorts_of}
 use Rattle.reasons.specs.Reasons.{empty_at}
 use Rattle.saturation.specs.Due.{Settled, all_due}
 use Rattle.saturation.proofs.Rounds.{saturated}
+use Rattle.std.specs.declared.option.Option.TheVariants.{None, Some}
 use Rattle.splits.specs.declared.Choice.{Choice}
 use Rattle.splits.specs.Choice.{choice_of, first_by, split_by}
-use Rattle.nodes.specs.Closed.{closed_by}
+use Rattle.instance.specs.declared.Instance.{Instance}
+use Rattle.nodes.specs.Closed.{closed}
 use Rattle.nodes.proofs.Closed.{none-empty}
 use Rattle.tallies.specs.declared.Outcome.{Outcome}
 use Rattle.tallies.specs.declared.Tally.{Tally}
@@ -39,13 +40,15 @@ use Rattle.tallies.proofs.OutcomeLaws.{closed-leaf, first-tells, none_left, open
 
 -- ---- a choice as code returns it
 
-pub no_choice : (c : Choice) (b : Bool) (o : Option Split) → c ≡ choice_of b o → c.found ≡ false → o ≡ none
-no_choice c b none e f = refl
-no_choice c b (some d) e f = absurd (false≢true (sym f ∙ ap (λ (x : Choice). x.found) e))
+pub no_choice : (b : Bool) (o : Option Split) → None ≡ choice_of b o → o ≡ none
+no_choice b none e = refl
+no_choice b (some d) e = cc
 
-pub a_choice : (c : Choice) (b : Bool) (o : Option Split) → c ≡ choice_of b o → c.found ≡ true → (d : Split) × (o ≡ some d) × (c.term ≡ d.term) × (c.variant ≡ d.variant) × (c.first ≡ b)
-a_choice c b none e f = absurd (false≢true (sym (ap (λ (x : Choice). x.found) e) ∙ f))
-a_choice c b (some d) e f = (d, refl, ap (λ (x : Choice). x.term) e, ap (λ (x : Choice). x.variant) e, ap (λ (x : Choice). x.first) e)
+pub a_choice : (c : Choice) (b : Bool) (o : Option Split) → Some c ≡ choice_of b o → (d : Split) × (o ≡ some d) × (c.term ≡ d.term) × (c.variant ≡ d.variant) × (c.first ≡ b)
+a_choice c b none e = cc
+a_choice c b (some d) e =
+    let q : c ≡ record { first = b; term = d.term; variant = d.variant } = cc in
+    (d, refl, ap (λ (x : Choice). x.term) q, ap (λ (x : Choice). x.variant) q, ap (λ (x : Choice). x.first) q)
 
 -- a node's search, by what it is
 module _ (g : Guard) (ok : Accepted g) (ls : List Literal) (range : LiteralsInRange ls) where
@@ -61,9 +64,21 @@ module _ (g : Guard) (ok : Accepted g) (ls : List Literal) (range : LiteralsInRa
 
 -- ---- visits
 
-module _ (shapes reads sorts full fieldless constants : List ℕ) (values : List ℤ) (kinds terms others : List ℕ) (many : ℕ) where
+module _ (i : Instance) (reads : List ℕ) where
+  abbrev shapes : List ℕ
+  shapes = i.shapes.slots
+
+  abbrev sorts : List ℕ
+  sorts = i.sorts.sorts
+
+  abbrev full : List ℕ
+  full = i.sorts.full
+
+  abbrev fieldless : List ℕ
+  fieldless = i.sorts.fieldless
+
   abbrev Gives : Tally → State → Outcome → State → Type 0
-  Gives = Searches shapes reads sorts full fieldless constants values kinds terms others many
+  Gives = Searches i reads
 
   pub nothing_left : (s s' : State) (t : Tally) → t.left ≡ 0 → Gives t s (Outcome.Spent t) s'
   unfolding Searches
@@ -75,12 +90,12 @@ module _ (shapes reads sorts full fieldless constants : List ℕ) (values : List
 
   module _ (s s₁ : State) (t : Tally) (some_left : 0 < t.left) (settled : Settled shapes reads sorts full fieldless s s₁) (held : Held s₁.classes) where
     abbrev test : Bool
-    test = closed_by shapes sorts full constants values kinds terms others many s₁
+    test = closed i s₁
 
     abbrev choice : Option Split
     choice = split_by reads sorts fieldless s₁
 
-    module _ (g : Guard) (ls : List Literal) (ok : Accepted g) (arrays : ArraysOf g shapes reads sorts full fieldless constants values kinds terms others many) (begun : Begun g ls s) where
+    module _ (g : Guard) (ls : List Literal) (ok : Accepted g) (arrays : ArraysOf g i reads) (begun : Begun g ls s) where
       range : LiteralsInRange ls
       range = literals_in_lem g ok begun.node
 
@@ -119,7 +134,7 @@ module _ (shapes reads sorts full fieldless constants : List ℕ) (values : List
 
     module _ (live : test ≡ false) where
       full? : lowest (empty_at sorts full s₁) 78 ≡ 78
-      full? = none-empty shapes sorts full constants values kinds terms others many s₁ live
+      full? = none-empty i s₁ live
 
       pub open_node : choice ≡ none → (u : Tally) → u ≡ after_one leaf t → Gives t s (Outcome.Open u) s₁
       unfolding Searches
@@ -131,7 +146,7 @@ module _ (shapes reads sorts full fieldless constants : List ℕ) (values : List
           )
 
       module _ (d : Split) (split? : choice ≡ some d) (b : Bool) (first? : first_by reads s₁ ≡ b) (u : Tally) (is_u_lem : u ≡ after_one (split (kind_by b)) t) (r : Outcome) (child s₂ : State) (first : Gives u child r s₂) (is_child : child ≡ add s₁ (within d.term (2 ^ d.variant))) where
-        module _ (g : Guard) (ls : List Literal) (ok : Accepted g) (arrays : ArraysOf g shapes reads sorts full fieldless constants values kinds terms others many) (begun : Begun g ls s) where
+        module _ (g : Guard) (ls : List Literal) (ok : Accepted g) (arrays : ArraysOf g i reads) (begun : Begun g ls s) where
           abbrev is_visits : Visits
           is_visits = search (table_of g) (is d.term d.variant ∷ ls)
 

@@ -1,6 +1,6 @@
 -- The nodes that code visits: the literals of each, the state that it begins with and the one that it leaves open.
 -- Assumes nothing: definitions.
-use Rattle.std.specs.Prelude.{◌≡◌, false, List, ◌∷◌, ℕ, ◌≤◌, ◌<◌, ℤ, length}
+use Rattle.std.specs.Prelude.{◌≡◌, false, List, ◌∷◌, ℕ, ◌≤◌, ◌<◌, length}
 use Rattle.std.proofs.Math.Option.{none}
 use Rattle.laws.specs.All.{All}
 use Rattle.guard.specs.Closure.{State, closure_of, given}
@@ -16,9 +16,7 @@ use Rattle.guard.proofs.ClosureState.{Says, Small}
 use Rattle.tables.specs.Layout.{flat, literal_table, row_table}
 use Rattle.classes.specs.Held.{Held}
 use Rattle.arrays.specs.Arrays.{constants_of, fieldless_of, full_of, reads_of, shapes_of, sorts_of}
-use Rattle.arrays.specs.Slots.{ReadsFit, ShapesFit, SortsFit}
-use Rattle.labelled.specs.Covers.{Covers, has_mask}
-use Rattle.reasons.specs.Reasons.{LinesFit}
+use Rattle.instance.specs.declared.Instance.{Instance}
 use Rattle.tallies.specs.declared.Outcome.{Outcome}
 use Rattle.tallies.specs.declared.Tally.{Tally}
 use Rattle.tallies.specs.Outcome.{outcome}
@@ -56,32 +54,22 @@ pub record StateFit (s : State) : Type 0 where
   pub long : length s.labels ≡ 96
   pub small : Small s
 
--- the numbers in the arrays are in range, and the list of terms leaves out none that has a label
-pub record ArraysFit (shapes reads sorts full fieldless labelled : List ℕ) (count : ℕ) (terms others : List ℕ) (many : ℕ) : Type 0 where
-  pub shapes_fit : ShapesFit shapes
-  pub reads_fit : ReadsFit reads
-  pub sorts_fit : SortsFit sorts
-  pub covers_full : Covers (has_mask sorts full) 78 labelled count
-  pub covers_fieldless : Covers (has_mask sorts fieldless) 78 labelled count
-  pub lines_fit : LinesFit terms others
-  pub few_lines : many ≤ 64
-
--- the arrays are a guard's
-pub record ArraysOf (g : Guard) (shapes reads sorts full fieldless constants : List ℕ) (values : List ℤ) (kinds terms others : List ℕ) (many : ℕ) : Type 0 where
-  pub is_shapes : shapes ≡ shapes_of g
+-- what is looked at is a guard's
+pub record ArraysOf (g : Guard) (i : Instance) (reads : List ℕ) : Type 0 where
+  pub is_shapes : i.shapes.slots ≡ shapes_of g
   pub is_reads : reads ≡ reads_of g
-  pub is_sorts : sorts ≡ sorts_of g
-  pub is_full : full ≡ full_of g
-  pub is_fieldless : fieldless ≡ fieldless_of g
-  pub is_constants : constants ≡ constants_of g
-  pub is_values : values ≡ (row_table g.types g.rows).values
-  pub is_kinds : kinds ≡ (literal_table g.literals).kinds
-  pub is_terms : terms ≡ (literal_table g.literals).terms
-  pub is_others : others ≡ (literal_table g.literals).others
-  pub is_many : many ≡ (literal_table g.literals).many
+  pub is_sorts : i.sorts.sorts ≡ sorts_of g
+  pub is_full : i.sorts.full ≡ full_of g
+  pub is_fieldless : i.sorts.fieldless ≡ fieldless_of g
+  pub is_constants : i.constants.sorts ≡ constants_of g
+  pub is_values : i.constants.values ≡ (row_table g.types g.rows).values
+  pub is_kinds : i.lines.kinds ≡ (literal_table g.literals).kinds
+  pub is_terms : i.lines.terms ≡ (literal_table g.literals).terms
+  pub is_others : i.lines.others ≡ (literal_table g.literals).others
+  pub is_many : i.lines.many ≡ (literal_table g.literals).many
 
 -- From a node that has begun: the outcome is that of the defined search, and an open node's closure is left.
-unfoldable pub Searches : List ℕ → List ℕ → List ℕ → List ℕ → List ℕ → List ℕ → List ℤ → List ℕ → List ℕ → List ℕ → ℕ → Tally → State → Outcome → State → Type 0
-Searches shapes reads sorts full fieldless constants values kinds terms others many tally s r s' =
-    (g : Guard) (ls : List Literal) → Accepted g → ArraysOf g shapes reads sorts full fieldless constants values kinds terms others many → Begun g ls s
+unfoldable pub Searches : Instance → List ℕ → Tally → State → Outcome → State → Type 0
+Searches i reads tally s r s' =
+    (g : Guard) (ls : List Literal) → Accepted g → ArraysOf g i reads → Begun g ls s
     → (r ≡ outcome (search (table_of g) ls) tally) × ((t : Tally) → r ≡ Outcome.Open t → OpenLeaf g s')

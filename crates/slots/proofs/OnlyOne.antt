@@ -34,9 +34,9 @@ none_left : (length (variants_in 0) ≡ 0) × (get_or (variants_in 0) 0 16 ≡ 1
 unfolding variants_in
 none_left = (refl, refl)
 
-pub lowest-most : (m : ℕ) → get_or (variants_in m) 0 16 ≤ 16
+pub lowest_most : (m : ℕ) → get_or (variants_in m) 0 16 ≤ 16
 unfolding variants_in
-lowest-most m = go (filter (λ v. not (eqb (bit m v) 0)) (from variant_limit 0)) (λ v k. omega (arith, from_bounds variant_limit 0 v (filter-is (λ v. not (eqb (bit m v) 0)) (from variant_limit 0) v k).0))
+lowest_most m = go (filter (λ v. not (eqb (bit m v) 0)) (from variant_limit 0)) (λ v k. omega (arith, from_bounds variant_limit 0 v (filter-is (λ v. not (eqb (bit m v) 0)) (from variant_limit 0) v k).0))
   where
     go : (vs : List ℕ) → ((v : ℕ) → Memᴰ v vs → v < 16) → get_or vs 0 16 ≤ 16
     go [] h = omega arith
@@ -84,7 +84,7 @@ module _ (sorts fieldless : List ℕ) (s : State) (x : ℕ) where
   range_of n v end e (inl (a, b, c)) =
       record { ordered = omega arith; most = omega arith; before = λ u h. absurd (omega (arith, b)); after = λ u h k. absurd (omega (arith, c)) }
   range_of n v end e (inr (a, b, c)) =
-      let l : n < 16 = omega (arith, e, lowest-most (label_of s x), a) in
+      let l : n < 16 = omega (arith, e, lowest_most (label_of s x), a) in
       record {
         ordered = omega arith;
         most = omega arith;

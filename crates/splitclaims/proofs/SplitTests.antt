@@ -1,35 +1,16 @@
--- Each test of a term and of a split, case by case as the code tells them apart. Assumes nothing.
+-- Each test of a split, case by case as the code tells them apart. Assumes nothing.
 use mathlib.Core.Path.{◌≡◌, ap, ap₂, sym, ◌∙◌}
 use mathlib.Core.Bool.{Bool, true, false, not, ◌&&◌}
 use mathlib.Core.List.{List}
 use Prim.Native.Nat.{ℕ, ◌^◌, ◌≤◌, ◌<◌}
-use lib.Dec.{eqb, ltb}
-use lib.ListN.{get_or}
-use borrow.Author.Tests.{le-ltb, lt-ltb, ltb-true}
+use lib.Dec.{eqb}
+use borrow.Author.Tests.{le-ltb, lt-ltb}
 use Rattle.laws.specs.Bits.{bit}
-use Rattle.laws.proofs.Bools.{and_left}
 use Rattle.guard.specs.Closure.{State, label_of}
 use Rattle.guard.specs.Limits.{variant_limit}
 use Rattle.guard.specs.Node.{holds_another}
 use Rattle.loops.proofs.Tests.{and_no, no_and, yes_and}
 use Rattle.splitclaims.specs.SplitClaims.{is_term, splits_by}
-
--- ---- terms
-
-module _ (sorts : List ℕ) (x : ℕ) where
-  pub term-past : 78 ≤ x → false ≡ is_term sorts x
-  unfolding is_term
-  term-past h = no_and _ (le-ltb x 78 h)
-
-  pub term-inside : x < 78 → not (eqb (get_or sorts x 0) 0) ≡ is_term sorts x
-  unfolding is_term
-  term-inside h = yes_and _ (lt-ltb x 78 h)
-
-  pub term-small : is_term sorts x ≡ true → x < 78
-  unfolding is_term
-  term-small e = ltb-true x 78 (and_left (ltb x 78) _ e)
-
--- ---- splits
 
 module _ (sorts : List ℕ) (s : State) (x v : ℕ) where
   pub no-split : is_term sorts x ≡ false → false ≡ splits_by sorts s x v

@@ -2,31 +2,34 @@
 #![tactic(auto)]
 
 ghost use Rattle.std.specs.Prelude.{◌≡◌};
-ghost use Rattle.classes.specs.Held.{Held, state};
-ghost use Rattle.splitclaims.specs.SplitClaims.{is_term, splits_by};
+ghost use Rattle.splitclaims.specs.SplitClaims.{TermOf, splits_by};
 
-// Whether there is a term of this number.
-pub fn is_term(sorts: &[u8; 96], x: u32) -> bool
-    ensures { result ≡ is_term sorts.now x }
+use classes::State;
+use labelled::Sorts;
+
+// The term of this number, if there is one.
+#[tactic(auto, unfolding(crate::specs::SplitClaims::is_term))]
+pub fn term_of(sorts: &Sorts, x: u32) -> Option<u8>
+    ensures { TermOf sorts.now.sorts x result }
 {
-    if 78 <= x {
-        return false;
+    if x < 78 && sorts.sorts[x as usize] != 0 {
+        Some(x as u8)
+    } else {
+        None
     }
-    sorts[x as usize] != 0
 }
 
 // Whether there is a term of this number, and its label holds the variant and another one.
-pub fn splits(classes: &[u8; 96], labels: &[u16; 96], sorts: &[u8; 96], x: u32, v: u32) -> bool
-    requires { Held classes.now }
-    ensures { result ≡ splits_by sorts.now (state classes.now labels.now) x v }
+pub fn splits(state: &State, sorts: &Sorts, x: u32, v: u32) -> bool
+    ensures { result ≡ splits_by sorts.now.sorts state.now x v }
 {
-    if !is_term(sorts, x) {
+    let Some(term) = term_of(sorts, x) else {
         return false;
-    }
+    };
     if 16 <= v {
         return false;
     }
-    let label = slots::label_at(classes, labels, x as usize);
+    let label = state.label_of(term);
     if labels::lacks(label, v) {
         return false;
     }

@@ -1,6 +1,8 @@
 -- The split of a node, by the slots of the problem's arrays. proofs/ shows that it is that of document 01. Assumes nothing: definitions.
-use Rattle.std.specs.Prelude.{Bool, true, false, not, ◌&&◌, cond, List, ℕ, eqb, leb, ltb, length, get_or}
+use Rattle.std.specs.Prelude.{Bool, not, ◌&&◌, cond, List, ℕ, eqb, leb, ltb, length, get_or}
 use Rattle.std.proofs.Math.Option.{Option, none, some}
+use Rattle.std.specs.declared.option.Option as option
+use Rattle.std.specs.declared.option.Option.TheVariants.{None, Some}
 use Rattle.std.specs.Int.Bits.{bit_and}
 use Rattle.guard.specs.Closure.{State, label_of}
 use Rattle.guard.specs.Node.{Split}
@@ -40,7 +42,7 @@ split_by reads sorts fieldless s = split_at reads s (lowest (read_splits reads s
 unfoldable pub first_by : List ℕ → State → Bool
 first_by reads s = ltb (lowest (read_splits reads s) 24) 24
 
--- a split as code returns it, and whether it is of the first kind
-abbrev pub choice_of : Bool → Option Split → Choice
-choice_of b none = record { found = false; first = false; term = 0; variant = 0 }
-choice_of b (some d) = record { found = true; first = b; term = d.term; variant = d.variant }
+-- a split as code returns it, with whether it is of the first kind
+abbrev pub choice_of : Bool → Option Split → option.Option Choice
+choice_of b none = None
+choice_of b (some d) = Some (record { first = b; term = d.term; variant = d.variant })

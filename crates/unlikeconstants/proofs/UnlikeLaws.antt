@@ -28,7 +28,7 @@ use Rattle.arrays.proofs.DueLaws.{is_nonzero, nonzero_is}
 use Rattle.constants.specs.Constants.{constant_value, is_constant}
 use Rattle.constants.proofs.ConstantSlots.{ConstantSlot, ConstantSlots, constant_slots}
 use Rattle.reasons.specs.Reasons.{constant_class}
-use Rattle.unlikeconstants.specs.Unlike.{constant_of, other_constant, unlike_in}
+use Rattle.unlikeconstants.specs.Unlike.{has_other, is_constant_of, other_constant, unlike_in}
 
 module _ (limits : Limits) (sup : Supported limits) (g : Guard) (ok : WellFormed limits g) (total : length (flat g.types) ≤ total_variant_limit) (s : State) (x : Term) where
   abbrev t : Table
@@ -42,7 +42,7 @@ module _ (limits : Limits) (sup : Supported limits) (g : Guard) (ok : WellFormed
 
   -- slot k has a constant of the class
   abbrev of : ℕ → Bool
-  of = constant_of (constants_of g) s.classes (class_of s x.term)
+  of = is_constant_of (constants_of g) s.classes (class_of s x.term)
 
   abbrev first : ℕ
   first = lowest of 30
@@ -66,7 +66,7 @@ module _ (limits : Limits) (sup : Supported limits) (g : Guard) (ok : WellFormed
     value : constant_value values k ≡ const.value
 
   at : (k : ℕ) → k < 30 → of k ≡ true → At k
-  unfolding constant_of
+  unfolding is_constant_of
   at k h e = go (slots.found k h (nonzero_is _ (and_left (is_constant (constants_of g) k) _ e)))
     where
       go : (c : Const) × Memᴰ c t.consts × ConstantSlot (constants_of g) values k c → At k
@@ -79,7 +79,7 @@ module _ (limits : Limits) (sup : Supported limits) (g : Guard) (ok : WellFormed
           }
 
   of_slot : (k : ℕ) (c : Const) → ConstantSlot (constants_of g) values k c → same_class s x.term c.term ≡ true → of k ≡ true
-  unfolding constant_of
+  unfolding is_constant_of
   of_slot k c p e = and_both _ _ (is_nonzero (get_or (constants_of g) k 0) (λ z. omega (arith, z, p.type))) (eq-eqb _ _ (ap (class_of s) p.term ∙ sym (eqb-true (class_of s x.term) (class_of s c.term) e)))
 
   there : any other (from 30 0) ≡ true → unlike_constants t s x ≡ true
@@ -110,5 +110,5 @@ module _ (limits : Limits) (sup : Supported limits) (g : Guard) (ok : WellFormed
       (λ y. sym (any_here other 30 j hj (and_both _ _ oj (ap not y))))
 
   pub unlike-same : unlike_in (constants_of g) (row_table g.types g.rows).values s.classes (class_of s x.term) ≡ unlike_constants (table_of g) s x
-  unfolding unlike_in
+  unfolding unlike_in has_other
   unlike-same = both (any other (from 30 0)) (unlike_constants t s x) there back

@@ -2,59 +2,59 @@
 #![tactic(auto)]
 
 ghost use Rattle.std.specs.Prelude.{◌≡◌, ◌<◌};
-ghost use Rattle.loops.specs.Lowest.{lowest};
-ghost use Rattle.unlikeconstants.specs.Unlike.{constant_of, other_constant, unlike_in};
+ghost use Rattle.loops.specs.Lowest.{Finds};
+ghost use Rattle.unlikeconstants.specs.Unlike.{has_other, is_constant_of, other_constant, unlike_in};
+
+use classes::State;
+use constants::Constants;
 
 // Whether slot `k` has a constant of this class.
-fn is_constant_of(classes: &[u8; 96], constants: &[u8; 32], class: u8, k: usize) -> bool
+#[tactic(auto, unfolding(crate::specs::Unlike::is_constant_of))]
+fn is_constant_of(state: &State, constants: &Constants, class: u8, k: usize) -> bool
     requires { k < 30 }
-    ensures { result ≡ constant_of constants.now classes.now class k }
+    ensures { result ≡ is_constant_of constants.now.sorts state.now.classes class k }
 {
-    if constants[k] == 0 {
-        return false;
-    }
-    classes::class_of(classes, constants::constant_term(k)) == class
+    constants.sort(k) != 0 && state.class_of(constants::constant_term(k)) == class
 }
 
-// The lowest slot that has one; 30 if there is none.
-fn first_constant(classes: &[u8; 96], constants: &[u8; 32], class: u8) -> usize
-    ensures { result ≡ lowest (constant_of constants.now classes.now class) 30 }
+// The lowest slot that has one.
+#[tactic(auto, using(loops::proofs::Loops::finds))]
+pub fn first_constant(state: &State, constants: &Constants, class: u8) -> Option<usize>
+    ensures { Finds (is_constant_of constants.now.sorts state.now.classes class) 30 result }
 {
-    for k in 0..30 {
-        if is_constant_of(classes, constants, class, k) {
-            return k;
-        }
-    }
-    30
+    loops::lowest(30, |k| is_constant_of(state, constants, class, k))
 }
 
 // Whether slot `k` has one, of another value than slot `first`.
+#[tactic(auto, unfolding(crate::specs::Unlike::other_constant))]
 fn is_other_constant(
-    classes: &[u8; 96],
-    constants: &[u8; 32],
-    values: &[i64; 24],
+    state: &State,
+    constants: &Constants,
     class: u8,
     first: usize,
     k: usize,
 ) -> bool
     requires { k < 30 }
-    ensures { result ≡ other_constant constants.now values.now classes.now class first k }
+    ensures { result ≡ other_constant constants.now.sorts constants.now.values state.now.classes class first k }
 {
-    if !is_constant_of(classes, constants, class, k) {
-        return false;
-    }
-    constants::constant_value(values, k) != constants::constant_value(values, first)
+    is_constant_of(state, constants, class, k) && constants.value(k) != constants.value(first)
+}
+
+// Whether a class has a constant of another value than slot `first`.
+#[tactic(auto, using(crate::proofs::UnlikeTests::others_pass))]
+fn has_other(state: &State, constants: &Constants, class: u8, first: usize) -> bool
+    ensures { result ≡ has_other constants.now.sorts constants.now.values state.now.classes class first }
+{
+    loops::any(30, |k| is_other_constant(state, constants, class, first, k))
 }
 
 // Whether a class holds two constants of different value: one differs from the first.
-pub fn holds_unlike(classes: &[u8; 96], constants: &[u8; 32], values: &[i64; 24], class: u8) -> bool
-    ensures { result ≡ unlike_in constants.now values.now classes.now class }
+#[tactic(auto, using(crate::proofs::UnlikeTests::by_first, crate::proofs::UnlikeTests::no_first))]
+pub fn holds_unlike(state: &State, constants: &Constants, class: u8) -> bool
+    ensures { result ≡ unlike_in constants.now.sorts constants.now.values state.now.classes class }
 {
-    let first = first_constant(classes, constants, class);
-    for k in 0..30 {
-        if is_other_constant(classes, constants, values, class, first, k) {
-            return true;
-        }
+    match first_constant(state, constants, class) {
+        Some(first) => has_other(state, constants, class, first),
+        None => false,
     }
-    false
 }

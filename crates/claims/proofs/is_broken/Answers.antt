@@ -5,8 +5,8 @@ use Rattle.loops.proofs.Tests.{no_and, yes_and}
 use Rattle.claims.proofs.ClaimTests.{tells}
 use Rattle.claims.proofs.is_broken.Goals as goal
 
-pub returns-then-many-j : goal.returns-then-many-j
-returns-then-many-j c = let a = c.args in tells _ _ (no_and _ (le-ltb a.j a.many c.if-many-j.true))
+pub returns-then-lines-j : goal.returns-then-lines-j
+returns-then-lines-j c = let a = c.args in tells _ _ (no_and _ (le-ltb a.j a.lines.now.many c.if-lines-j.true))
 
 pub returns : goal.returns
-returns c = let a = c.args in tells _ _ (c.is_broken.ensures ∙ yes_and _ (lt-ltb a.j a.many c.if-many-j.false))
+returns c = let a = c.args in tells _ _ (c.is_broken.ensures ∙ yes_and _ (lt-ltb a.j a.lines.now.many c.if-lines-j.false))

@@ -1,7 +1,6 @@
 -- `follow_all` meets its contract. Invariant: the shapes so far are passed. Assumes nothing.
-use Rattle.classes.specs.Held.{state}
 use Rattle.needed.specs.Needed.{Followed, Pass, UpTo}
 use Rattle.needed.proofs.follow_all.Given as goal
 
 abbrev pub invariant-loop-k : goal.invariant-loop-k
-invariant-loop-k l = Pass l.shapes (state l.classes l.labels) l.start (UpTo (Followed l.shapes (state l.classes l.labels) l.start) l.k) l.initial.spare l.spare l.any
+invariant-loop-k l = Pass l.shapes.slots l.state l.start (UpTo (Followed l.shapes.slots l.state l.start) l.k) l.initial.marks l.marks l.any

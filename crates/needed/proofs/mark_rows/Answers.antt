@@ -3,8 +3,8 @@ use Rattle.needed.proofs.Marking.{rows_next, rows_none}
 use Rattle.needed.proofs.mark_rows.Goals as goal
 
 pub loop-i-init : goal.loop-i-init
-loop-i-init c = rows_none c.args.classes.now c.args.spare.now
+loop-i-init c = rows_none c.args.state.now.classes c.args.marks.now
 
 pub loop-i-preserved : goal.loop-i-preserved
 loop-i-preserved c = let l = c.loop-i in
-    rows_next c.args.classes.now c.args.spare.now l.spare _ l.i l.invariant c.mark.ensures.spare_after
+    rows_next c.args.state.now.classes c.args.marks.now l.marks _ l.i l.invariant c.mark.ensures.marks_after

@@ -4,4 +4,4 @@ use Rattle.needed.specs.Needed.{row_marks}
 use Rattle.needed.proofs.mark_rows.Given as goal
 
 abbrev pub invariant-loop-i : goal.invariant-loop-i
-invariant-loop-i l = l.spare ≡ row_marks l.classes l.i l.initial.spare
+invariant-loop-i l = l.marks ≡ row_marks l.state.classes l.i l.initial.marks

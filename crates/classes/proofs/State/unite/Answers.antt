@@ -1,6 +1,6 @@
 -- The classes after a merge are terms. Assumes nothing.
-use Rattle.classes.proofs.ClassLaws.{merge_held}
+use Rattle.classes.proofs.ClassLaws.{merge_kept}
 use Rattle.classes.proofs.State.unite.Goals as goal
 
 pub invariant_of-self : goal.invariant_of-self
-invariant_of-self c = merge_held _ _ _ _ c.self.invariant (c.self.invariant.there _) (c.self.invariant.there _) c.merge.ensures.classes_after
+invariant_of-self c = merge_kept _ _ _ _ _ _ c.self.invariant (c.self.invariant.held.there _) (c.self.invariant.held.there _) c.merge.ensures.classes_after c.merge.ensures.labels_after
