@@ -6,8 +6,8 @@ use Prim.Native.Nat.{ℕ, zero, suc, ◌+◌, ◌-◌}
 use native.Mathlib.Omega.{arith}
 use lib.Dec.{leb}
 use lib.ListN.{length, drop, replicate, length-replicate}
-use Rattle.bytebuffer.specs.declared.End.{End}
-use Rattle.bytebuffer.specs.Puts.{Puts, filled}
+use borrow.Author.Tests.{le-leb, lt-leb}
+use Rattle.bytebuffer.specs.Puts.{Outgrow, Stand, filled}
 
 zeros_left : (k n : ℕ) → drop {A = ℕ} k (replicate n 0) ≡ replicate (n - k) 0
 zeros_left zero n = let whole : n ≡ n - 0 = omega arith in ap (λ (m : ℕ). replicate m 0) whole
@@ -22,24 +22,29 @@ module _ (bytes : List ℕ) (n : ℕ) where
   pub filled_none : leb (length bytes) n ≡ false → filled bytes n ≡ replicate n 0
   filled_none q = ap (λ (b : Bool). cond b (bytes ++ replicate (n - length bytes) 0) (replicate n 0)) q
 
-module _ {bytes : List ℕ} (out : List ℕ) {blank : List ℕ} (clear : blank ≡ replicate (length out) 0) {r : End} {out' : List ℕ} (w : Puts bytes blank 0 r out') where
+module _ (out : List ℕ) {blank : List ℕ} (clear : blank ≡ replicate (length out) 0) where
   long : length blank ≡ length out
   long = ap length clear ∙ length-replicate (length out) 0
 
-  from_start : 0 + length bytes ≡ length bytes
-  from_start = omega arith
+  module _ {bytes : List ℕ} {end : ℕ} {out' : List ℕ} (s : Stand bytes blank 0 end out') where
+    from_start : 0 + length bytes ≡ length bytes
+    from_start = omega arith
 
-  pub fits-room : (b : Bool) → r.fits ≡ b → leb (length bytes) (length out) ≡ b
-  fits-room b q = ap₂ leb (sym from_start) (sym long) ∙ sym w.fits ∙ q
+    pub fits-room : leb (length bytes) (length out) ≡ true
+    fits-room = le-leb (length bytes) (length out) (omega (arith, s.fit, long))
 
-  pub ends_there : r.fits ≡ true → r.at ≡ length bytes
-  ends_there q = w.ends q ∙ from_start
+    pub ends_there : end ≡ length bytes
+    ends_there = s.ends ∙ from_start
 
-  pub fills : r.fits ≡ true → out' ≡ filled bytes (length out)
-  fills q =
-      w.is q ∙ ap (λ (zs : List ℕ). bytes ++ zs) (ap₂ (λ (k : ℕ) (zs : List ℕ). drop k zs) from_start clear ∙ zeros_left (length bytes) (length out))
-      ∙ sym (filled_with bytes (length out) (fits-room true q))
+    pub fills : out' ≡ filled bytes (length out)
+    fills =
+        s.is ∙ ap (λ (zs : List ℕ). bytes ++ zs) (ap₂ (λ (k : ℕ) (zs : List ℕ). drop k zs) from_start clear ∙ zeros_left (length bytes) (length out))
+        ∙ sym (filled_with bytes (length out) fits-room)
 
-  -- the buffer is cleared again
-  pub outgrows : r.fits ≡ false → {last : List ℕ} → last ≡ replicate (length out') 0 → last ≡ filled bytes (length out)
-  outgrows q e = e ∙ ap (λ (k : ℕ). replicate k 0) (w.long ∙ long) ∙ sym (filled_none bytes (length out) (fits-room false q))
+  module _ {bytes out' : List ℕ} (s : Outgrow bytes blank 0 out') where
+    pub no_room : leb (length bytes) (length out) ≡ false
+    no_room = lt-leb (length bytes) (length out) (omega (arith, s.over, long))
+
+    -- the buffer is cleared again
+    pub outgrows : {last : List ℕ} → last ≡ replicate (length out') 0 → last ≡ filled bytes (length out)
+    outgrows e = e ∙ ap (λ (k : ℕ). replicate k 0) (s.long ∙ long) ∙ sym (filled_none bytes (length out) no_room)

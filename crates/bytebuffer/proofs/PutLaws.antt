@@ -1,79 +1,77 @@
 -- Bytes that fit and bytes that don't, and bytes put behind those that were put. Assumes nothing.
-use mathlib.Core.Path.{◌≡◌, refl, ap, ap₂, sym, ◌∙◌, subst}
-use mathlib.Core.Bool.{true, false, false≢true}
-use mathlib.Core.List.{List, [], ◌++◌, append_assoc}
-use Prim.Native.Nat.{ℕ, ◌+◌, ◌≤◌, ◌<◌}
+use mathlib.Core.Path.{◌≡◌, refl, ap, ap₂, ◌∙◌, sym, subst}
+use mathlib.Core.List.{List, [], ◌∷◌, ◌++◌, append_assoc, append-nil}
+use Prim.Native.Nat.{ℕ, zero, suc, ◌+◌}
 use native.Mathlib.Omega.{arith}
-use lib.Dec.{leb}
-use lib.ListN.{length, take, drop, length-append}
-use lib.Seq.{drop_at, drop-drop, length-take-le, length-sets, sets, sets-eq, take_at}
-use borrow.Author.Tests.{le-leb, leb-false, leb-true, lt-leb}
-use Rattle.bytebuffer.specs.declared.End.{End}
-use Rattle.bytebuffer.specs.Puts.{Puts}
+use lib.ListN.{length, take, drop, length-append, length-drop}
+use lib.Seq.{drop_at, drop-drop, length-take-le, take_at}
+use Rattle.std.specs.Prelude.{Option, Some, None}
+use Rattle.bytebuffer.specs.declared.Writer.{Writer}
+use Rattle.bytebuffer.specs.Appends.{Appends}
+use Rattle.bytebuffer.specs.Puts.{Outgrow, Stand}
 
-module _ {out : List ℕ} {at : ℕ} where
-  -- bytes stored one by one
-  pub stored : (bytes : List ℕ) → at + length bytes ≤ length out → (end : ℕ) → end ≡ at + length bytes → (out' : List ℕ) → out' ≡ sets out at bytes → Puts bytes out at (record { fits = true; at = end }) out'
-  stored bytes h end e out' q =
+module _ {bytes out out' : List ℕ} {at end : ℕ} (s : Stand bytes out at end out') where
+  head : length (take at out ++ bytes) ≡ end
+  head = length-append (take at out) bytes ∙ omega (arith, length-take-le at out (omega (arith, s.fit)), s.ends)
+
+  pub long : length out' ≡ length out
+  long = ap length s.is ∙ length-append (take at out ++ bytes) (drop (at + length bytes) out) ∙ omega (arith, head, length-drop (at + length bytes) out, s.fit, s.ends)
+
+  front : take end out' ≡ take at out ++ bytes
+  front = ap (take end) s.is ∙ take_at (take at out ++ bytes) _ end head
+
+  back : drop end out' ≡ drop end out
+  back = ap (drop end) s.is ∙ drop_at (take at out ++ bytes) _ end head ∙ ap (λ (k : ℕ). drop k out) (sym s.ends)
+
+  module _ (more : List ℕ) where
+    both : at + length (bytes ++ more) ≡ end + length more
+    both = omega (arith, length-append bytes more, s.ends)
+
+    rest : drop (end + length more) out' ≡ drop (at + length (bytes ++ more)) out
+    rest = sym (drop-drop (length more) end out') ∙ ap (drop (length more)) back ∙ drop-drop (length more) end out ∙ ap (λ (k : ℕ). drop k out) (sym both)
+
+  -- more bytes behind them
+  pub stand-more : {more : List ℕ} {end' : ℕ} {out'' : List ℕ} → Stand more out' end end' out'' → Stand (bytes ++ more) out at end' out''
+  stand-more {more} v =
       record {
-        long = ap length q ∙ length-sets out at bytes;
-        fits = sym (le-leb (at + length bytes) (length out) h);
-        ends = λ _. e;
-        is = λ _. q ∙ sets-eq bytes out at h;
+        fit = omega (arith, both more, v.fit, long);
+        ends = v.ends ∙ sym (both more);
+        is = v.is ∙ ap₂ (λ (a b : List ℕ). a ++ more ++ b) front (rest more) ∙ ap (λ (l : List ℕ). l ++ drop (at + length (bytes ++ more)) out) (append_assoc (take at out) bytes more);
       }
 
-  pub full : (bytes : List ℕ) (end : ℕ) → length out < at + length bytes → Puts bytes out at (record { fits = false; at = end }) out
-  full bytes end h =
-      record { long = refl; fits = sym (lt-leb (at + length bytes) (length out) h); ends = λ q. absurd (false≢true q); is = λ q. absurd (false≢true q) }
+  pub outgrow-more : {more : List ℕ} {out'' : List ℕ} → Outgrow more out' end out'' → Outgrow (bytes ++ more) out at out''
+  outgrow-more {more} v = record { long = v.long ∙ long; over = omega (arith, both more, v.over, long) }
 
-  pub nothing : at ≤ length out → Puts [] out at (record { fits = true; at = at }) out
-  nothing h = stored [] (omega arith) at (omega arith) out refl
+-- ---- what a writer appends
 
-  module _ {bytes out' : List ℕ} {r : End} (w : Puts bytes out at r out') where
-    pub same_bytes_lem : {other : List ℕ} → bytes ≡ other → Puts other out at r out'
-    same_bytes_lem e = subst (λ (bs : List ℕ). Puts bs out at r out') e w
+pub nothing : (w : Writer) → Appends [] w (Some tt) w
+nothing w = let e : w.at ≡ w.at + 0 = omega arith in
+    record {
+      same = refl;
+      behind = record { fit = omega (arith, w.at_in_bounds); ends = e; is = sym (whole w.at w.out.now) ∙ ap₂ (λ (l : List ℕ) (k : ℕ). l ++ drop k w.out.now) (sym (append-nil (take w.at w.out.now))) e };
+    }
+  where
+    whole : (k : ℕ) (xs : List ℕ) → take k xs ++ drop k xs ≡ xs
+    whole zero xs = refl
+    whole (suc k) [] = refl
+    whole (suc k) (x ∷ xs) = ap (λ (l : List ℕ). x ∷ l) (whole k xs)
 
-    -- where they end, the buffer goes on
-    pub within : r.fits ≡ true → at + length bytes ≤ length out
-    within q = leb-true (at + length bytes) (length out) (sym w.fits ∙ q)
+module _ {bytes : List ℕ} {w w' : Writer} where
+  pub same-bytes : {r : Option (Unit {0})} {other : List ℕ} → bytes ≡ other → Appends bytes w r w' → Appends other w r w'
+  same-bytes {r} e p = subst (λ (bs : List ℕ). Appends bs w r w') e p
 
-    pub ends-within : r.fits ≡ true → r.at ≤ length out'
-    ends-within q = omega (arith, w.ends q, w.long, within q)
+  -- more bytes behind them
+  pub and_then : Appends bytes w (Some tt) w' → {more : List ℕ} {r : Option (Unit {0})} {w'' : Writer} → Appends more w' r w'' → Appends (bytes ++ more) w r w''
+  and_then p {r = Some u} q = record { same = q.same ∙ p.same; behind = stand-more p.behind q.behind }
+  and_then p {r = None} q = record { same = q.same ∙ p.same; behind = outgrow-more p.behind q.behind }
 
-    -- what doesn't fit doesn't fit with more behind it
-    pub still_full : r.fits ≡ false → (more : List ℕ) → Puts (bytes ++ more) out at r out'
-    still_full q more =
-        record {
-          long = w.long;
-          fits = q ∙ sym (lt-leb (at + length (bytes ++ more)) (length out) (omega (arith, length-append bytes more, over)));
-          ends = λ p. absurd (false≢true (sym q ∙ p));
-          is = λ p. absurd (false≢true (sym q ∙ p));
-        }
-      where
-        over : length out < at + length bytes
-        over = leb-false (at + length bytes) (length out) (sym w.fits ∙ q)
+  -- what doesn't fit doesn't fit with more behind it
+  pub still_full : (more : List ℕ) → Appends bytes w None w' → Appends (bytes ++ more) w None w'
+  still_full more p = record { same = p.same; behind = record { long = p.behind.long; over = omega (arith, length-append bytes more, p.behind.over) } }
 
-    -- more bytes behind them
-    pub and_then : r.fits ≡ true → {more out'' : List ℕ} {r' : End} → Puts more out' r.at r' out'' → Puts (bytes ++ more) out at r' out''
-    and_then q {more} {out''} {r'} v =
-        let both : at + length (bytes ++ more) ≡ r.at + length more = omega (arith, length-append bytes more, w.ends q) in
-        record {
-          long = v.long ∙ w.long;
-          fits = v.fits ∙ ap₂ leb (sym both) w.long;
-          ends = λ p. v.ends p ∙ sym both;
-          is = λ p. v.is p ∙ ap₂ (λ (a b : List ℕ). a ++ more ++ b) front rest ∙ ap (λ (l : List ℕ). l ++ drop (at + length (bytes ++ more)) out) (append_assoc (take at out) bytes more);
-        }
-      where
-        head : length (take at out ++ bytes) ≡ r.at
-        head = length-append (take at out) bytes ∙ omega (arith, length-take-le at out (omega (arith, within q)), w.ends q)
+  -- from the start of a buffer
+  pub from_start : {out : List ℕ} → w.out.now ≡ out → w.at ≡ 0 → Appends bytes w (Some tt) w' → Stand bytes out 0 w'.at w'.out.now
+  from_start {out} e z p = subst (λ (k : ℕ). Stand bytes out k w'.at w'.out.now) z (subst (λ (o : List ℕ). Stand bytes o w.at w'.at w'.out.now) e p.behind)
 
-        front : take r.at out' ≡ take at out ++ bytes
-        front = ap (take r.at) (w.is q) ∙ take_at (take at out ++ bytes) _ r.at head
-
-        back : drop r.at out' ≡ drop r.at out
-        back = ap (drop r.at) (w.is q) ∙ drop_at (take at out ++ bytes) _ r.at head ∙ ap (λ (k : ℕ). drop k out) (sym (w.ends q))
-
-        rest : drop (r.at + length more) out' ≡ drop (at + length (bytes ++ more)) out
-        rest =
-            let both : r.at + length more ≡ at + length (bytes ++ more) = omega (arith, length-append bytes more, w.ends q) in
-            sym (drop-drop (length more) r.at out') ∙ ap (drop (length more)) back ∙ drop-drop (length more) r.at out ∙ ap (λ (k : ℕ). drop k out) both
+  pub full_from_start : {out : List ℕ} → w.out.now ≡ out → w.at ≡ 0 → Appends bytes w None w' → Outgrow bytes out 0 w'.out.now
+  full_from_start {out} e z p = subst (λ (k : ℕ). Outgrow bytes out k w'.out.now) z (subst (λ (o : List ℕ). Outgrow bytes o w.at w'.out.now) e p.behind)

@@ -1,61 +1,39 @@
 // Bytes in a lent buffer, one behind the other, as far as they fit.
 #![tactic(auto)]
 
-ghost use Rattle.std.specs.Prelude.{◌≡◌, [], ◌∷◌, ◌≤◌, length, replicate};
-ghost use Rattle.bytebuffer.specs.Puts.{Puts};
+ghost use Rattle.std.specs.Prelude.{◌≡◌, ◌≤◌, length, replicate};
 
-// Whether all bytes fit, and the place behind them if they do.
-#[derive(Clone, Copy)]
-pub struct End {
-    pub fits: bool,
+// A lent buffer, and the place up to which it is written.
+#[derive(Drop)]
+pub struct Writer<'a> {
+    pub out: &'a mut [u8],
     pub at: usize,
+    pub ghost at_in_bounds: { at ≤ length out.now },
 }
 
-// A byte at place `at`, if it fits.
-pub fn put_one(out: &mut [u8], at: usize, a: u8) -> End
-    requires { at ≤ length out.old }
-    ensures { Puts (a ∷ []) out.old at result out.new }
-{
-    if out.len() <= at {
-        return End { fits: false, at };
-    }
-    out[at] = a;
-    End {
-        fits: true,
-        at: at + 1,
-    }
-}
+impl<'a> Writer<'a> {
+    ghost use Rattle.bytebuffer.specs.Appends.{Appends};
 
-// Two bytes from place `at` on, if both fit.
-pub fn put_two(out: &mut [u8], at: usize, a: u8, b: u8) -> End
-    requires { at ≤ length out.old }
-    ensures { Puts (a ∷ b ∷ []) out.old at result out.new }
-{
-    if out.len() - at < 2 {
-        return End { fits: false, at };
+    // From the start of a buffer on.
+    pub fn new(out: &'a mut [u8]) -> Writer<'a>
+        ensures same { result.out.ghost_name ≡ out.entry.ghost_name }
+        ensures out { result.out.now ≡ out.old }
+        ensures at { result.at ≡ 0 }
+    {
+        Writer { out, at: 0 }
     }
-    out[at] = a;
-    out[at + 1] = b;
-    End {
-        fits: true,
-        at: at + 2,
-    }
-}
 
-// Three bytes from place `at` on, if all fit.
-pub fn put_three(out: &mut [u8], at: usize, a: u8, b: u8, c: u8) -> End
-    requires { at ≤ length out.old }
-    ensures { Puts (a ∷ b ∷ c ∷ []) out.old at result out.new }
-{
-    if out.len() - at < 3 {
-        return End { fits: false, at };
-    }
-    out[at] = a;
-    out[at + 1] = b;
-    out[at + 2] = c;
-    End {
-        fits: true,
-        at: at + 3,
+    // Bytes behind those that are written, if they fit.
+    pub fn put(&mut self, bytes: &[u8]) -> Option<()>
+        ensures { Appends bytes.now self.old result self.new }
+    {
+        if self.out.len() - self.at < bytes.len() {
+            return None;
+        }
+        let end = self.at + bytes.len();
+        self.out[self.at..end].copy_from_slice(bytes);
+        self.at = end;
+        Some(())
     }
 }
 

@@ -1,11 +1,11 @@
 -- The numbers of a row, by what the tables say of it. Assumes nothing.
 use mathlib.Core.Path.{◌≡◌, refl, ap, sym, ◌∙◌}
-use mathlib.Core.Bool.{true, false}
 use mathlib.Core.List.{List, [], ◌∷◌, map}
 use Prim.Native.Nat.{ℕ, zero, suc, ◌+◌, ◌-◌, ◌*◌, ◌≤◌, ◌<◌}
 use native.Mathlib.Omega.{arith}
 use lib.IntN.{pos}
 use lib.ListN.{length, get_or, take, drop}
+use Rattle.std.specs.Prelude.{Some, None}
 use Rattle.guard.specs.Guard.{Row, Row.built, Row.constant, Row.field, Row.variable, row_at, type_of}
 use Rattle.guard.specs.Number.{fold_signed}
 use Rattle.guard.specs.Types.{Types}
@@ -110,47 +110,55 @@ module _ {types : TypeTable} {rows : RowTable} {r : ℕ} (b : HasRow types rows 
   pub place : r < 24
   place = (entry b.some.holds-types b.some.holds_rows r b.inside).small
 
-  pub kind-is : IsEntry types rows r 0 (record { there = true; number = get_or rows.kinds r 0 })
+  pub kind-is : IsEntry types rows r 0 (Some (get_or rows.kinds r 0))
   kind-is = record { is = λ ts rs t h. one (entry t h r b.inside).kind ∙ kind-first (row_at rs r) }
 
-  pub term_is : get_or rows.kinds r 0 ≡ 3 → IsEntry types rows r 1 (record { there = true; number = get_or rows.parts (3 * r) 0 })
+  pub term_is : get_or rows.kinds r 0 ≡ 3 → IsEntry types rows r 1 (Some (get_or rows.parts (3 * r) 0))
   term_is e =
       record {
         is = λ ts rs t h. let x = entry t h r b.inside in
             let i : 3 * r ≡ 3 * r + 0 = omega arith in one (ap (λ (k : ℕ). get_or rows.parts k 0) i ∙ x.part 0 (omega arith)) ∙ term-second (row_at rs r) (sym x.kind ∙ e);
       }
 
-  pub type-is : ¬ (get_or rows.kinds r 0 ≡ 3) → IsEntry types rows r 1 (record { there = true; number = get_or rows.types r 0 })
+  pub type-is : ¬ (get_or rows.kinds r 0 ≡ 3) → IsEntry types rows r 1 (Some (get_or rows.types r 0))
   type-is n = record { is = λ ts rs t h. let x = entry t h r b.inside in one x.type ∙ type-second ts (row_at rs r) (λ e. n (x.kind ∙ e)) }
 
-  pub none_is : get_or rows.kinds r 0 ≡ 0 → IsEntry types rows r 2 (record { there = false; number = 0 })
+  pub none_is : get_or rows.kinds r 0 ≡ 0 → IsEntry types rows r 2 None
   none_is e = record { is = λ ts rs t h. none-third (row_at rs r) (sym (entry t h r b.inside).kind ∙ e) }
 
-  pub value-is : get_or rows.kinds r 0 ≡ 1 → (n : ℕ) → n ≡ fold_signed (get_or rows.values r (pos 0)) → IsEntry types rows r 2 (record { there = true; number = n })
+  pub value-is : get_or rows.kinds r 0 ≡ 1 → (n : ℕ) → n ≡ fold_signed (get_or rows.values r (pos 0)) → IsEntry types rows r 2 (Some n)
   value-is e n q = record { is = λ ts rs t h. let x = entry t h r b.inside in one (q ∙ ap fold_signed x.value) ∙ value-third (row_at rs r) (sym x.kind ∙ e) }
 
-  pub variant_is : ¬ (get_or rows.kinds r 0 ≡ 0) → ¬ (get_or rows.kinds r 0 ≡ 1) → IsEntry types rows r 2 (record { there = true; number = get_or rows.variants r 0 })
+  pub variant_is : ¬ (get_or rows.kinds r 0 ≡ 0) → ¬ (get_or rows.kinds r 0 ≡ 1) → IsEntry types rows r 2 (Some (get_or rows.variants r 0))
   variant_is n m = record { is = λ ts rs t h. let x = entry t h r b.inside in one x.variant ∙ variant-third (row_at rs r) (λ e. n (x.kind ∙ e)) (λ e. m (x.kind ∙ e)) }
 
-  pub position-is : get_or rows.kinds r 0 ≡ 3 → IsEntry types rows r 3 (record { there = true; number = get_or rows.parts (3 * r + 1) 0 })
+  pub position-is : get_or rows.kinds r 0 ≡ 3 → IsEntry types rows r 3 (Some (get_or rows.parts (3 * r + 1) 0))
   position-is e = record { is = λ ts rs t h. let x = entry t h r b.inside in one (x.part 1 (omega arith)) ∙ position_fourth (row_at rs r) (sym x.kind ∙ e) }
 
-  pub no_more : (j : ℕ) → 3 ≤ j → ¬ (get_or rows.kinds r 0 ≡ 2) → (get_or rows.kinds r 0 ≡ 3 → ¬ (j ≡ 3)) → IsEntry types rows r j (record { there = false; number = 0 })
+  pub no_more : (j : ℕ) → 3 ≤ j → ¬ (get_or rows.kinds r 0 ≡ 2) → (get_or rows.kinds r 0 ≡ 3 → ¬ (j ≡ 3)) → IsEntry types rows r j None
   no_more j l n m =
       record {
         is = λ ts rs t h. let x = entry t h r b.inside in
             no_fourth (row_at rs r) (j - 3) (λ e. n (x.kind ∙ e)) (λ e z. m (x.kind ∙ e) (omega arith)) ∙ counted j l (row_at rs r);
       }
 
+pub ruleset second_laws = (place, term_is, type-is)
+
+pub ruleset third_laws = (place, none_is, value-is, variant_is)
+
+pub ruleset later_laws = (place, position-is, no_more)
+
+pub ruleset kind_laws = (place, kind-is)
+
 module _ {types : TypeTable} {rows : RowTable} {r : ℕ} (b : BuiltRow types rows r) (many : ℕ) (count : PartCount types rows r many) (j : ℕ) (later : 3 ≤ j) where
-  pub part-is : j - 3 < many → j - 3 < 3 → IsEntry types rows r j (record { there = true; number = get_or rows.parts (3 * r + (j - 3)) 0 })
+  pub part-is : j - 3 < many → j - 3 < 3 → IsEntry types rows r j (Some (get_or rows.parts (3 * r + (j - 3)) 0))
   part-is l few =
       record {
         is = λ ts rs t h. let x = entry t h r b.inside in
             one (x.part (j - 3) few) ∙ part_later (row_at rs r) (sym x.kind ∙ b.built) (j - 3) (omega (arith, count.is ts rs t h)) ∙ counted j later (row_at rs r);
       }
 
-  pub part_none : many ≤ j - 3 → IsEntry types rows r j (record { there = false; number = 0 })
+  pub part_none : many ≤ j - 3 → IsEntry types rows r j None
   part_none l =
       record {
         is = λ ts rs t h. let x = entry t h r b.inside in

@@ -13,9 +13,8 @@ use Rattle.guard.specs.Number.{Parsed, Parsed.accepted, Parsed.refused}
 use Rattle.guard.specs.Question.{number_of}
 use Rattle.guard.specs.declared.Question.{Question}
 use Rattle.guard.specs.declared.Question.TheVariants.{FileTooLong}
-use Rattle.bytebuffer.specs.declared.End.{End}
-use Rattle.bytebuffer.specs.Puts.{Puts}
-use Rattle.bytebuffer.proofs.FillLaws.{ends_there, filled_with, fills, fits-room, outgrows}
+use Rattle.bytebuffer.specs.Puts.{Outgrow, Stand}
+use Rattle.bytebuffer.proofs.FillLaws.{ends_there, filled_with, fills, fits-room, no_room, outgrows}
 use Rattle.filewriter.specs.Writer.{Answered, answer_by, left_with}
 
 module _ {A : Type 0} (bytes : A → List ℕ) where
@@ -30,20 +29,19 @@ module _ {A : Type 0} (bytes : A → List ℕ) where
   by_length : {p : Parsed A} {g : A} {rest : List ℕ} → p ≡ accepted g rest → (n : ℕ) (b : Bool) → leb (length (bytes g)) n ≡ b → answer_by bytes p n ≡ cond b (Ok (length (bytes g))) (Err 14)
   by_length {g = g} is n b q = ap (λ (x : Parsed A). answer_by bytes x n) is ∙ ap (λ (x : Bool). cond x (Ok (length (bytes g))) (Err 14)) q
 
-  module _ {p : Parsed A} {g : A} {rest : List ℕ} (is : p ≡ accepted g rest) (out : List ℕ) {blank : List ℕ} (clear : blank ≡ replicate (length out) 0) {r : End} {out' : List ℕ}
-      (puts : Puts (bytes g) blank 0 r out') where
+  module _ {p : Parsed A} {g : A} {rest : List ℕ} (is : p ≡ accepted g rest) (out : List ℕ) {blank : List ℕ} (clear : blank ≡ replicate (length out) 0) {out' : List ℕ} where
     -- the bytes fit
-    pub answers-written : r.fits ≡ true → Answers p (length out) (Ok r.at) out'
-    answers-written q = (
-      by_length is (length out) true (fits-room out clear puts true q) ∙ ap Ok (sym (ends_there out clear puts q)),
-      fills out clear puts q ∙ ap (λ (x : Parsed A). left_with bytes x (length out)) (sym is),
+    pub answers-written : {end : ℕ} → Stand (bytes g) blank 0 end out' → Answers p (length out) (Ok end) out'
+    answers-written s = (
+      by_length is (length out) true (fits-room out clear s) ∙ ap Ok (sym (ends_there out clear s)),
+      fills out clear s ∙ ap (λ (x : Parsed A). left_with bytes x (length out)) (sym is),
     )
 
     -- they don't, and the buffer is cleared again
-    pub answers-short : r.fits ≡ false → {last : List ℕ} → last ≡ replicate (length out') 0 → Answers p (length out) (Err FileTooLong) last
-    answers-short q e = (
-      by_length is (length out) false (fits-room out clear puts false q),
-      outgrows out clear puts q e ∙ ap (λ (x : Parsed A). left_with bytes x (length out)) (sym is),
+    pub answers-short : Outgrow (bytes g) blank 0 out' → {last : List ℕ} → last ≡ replicate (length out') 0 → Answers p (length out) (Err FileTooLong) last
+    answers-short s e = (
+      by_length is (length out) false (no_room out clear s),
+      outgrows out clear s e ∙ ap (λ (x : Parsed A). left_with bytes x (length out)) (sym is),
     )
 
   -- ---- what an answer tells

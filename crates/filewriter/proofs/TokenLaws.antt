@@ -1,8 +1,8 @@
 -- Tokens by their marks: a value is folded, any other number is written as it is. Assumes nothing.
-use mathlib.Core.Path.{◌≡◌, refl, ap, sym, subst, ◌∙◌}
-use mathlib.Core.Bool.{true, false}
+use mathlib.Core.Path.{◌≡◌, refl, ap, sym, ◌∙◌}
 use mathlib.Core.List.{List, [], ◌∷◌, ◌++◌, append-nil, map}
 use Prim.Native.Nat.{ℕ, zero, suc, ◌+◌, ◌≤◌, ◌<◌}
+use native.Mathlib.Numerals.{add-one}
 use native.Mathlib.Omega.{arith}
 use lib.IntN.{ℤ, pos}
 use lib.ListN.{length, get_or, drop, take, length-map}
@@ -16,11 +16,15 @@ use Rattle.encoding.specs.Encoding.{encoded_of, encoded_value}
 use Rattle.encoding.proofs.ReadBack.{same-encoded}
 use Rattle.serialize.specs.Tokens.{Fits, Token, Token.plain, Token.value, listed, token_bytes, unsigned_of}
 use Rattle.serialize.proofs.Copying.{concat_map-append}
-use Rattle.bytebuffer.specs.declared.End.{End}
-use Rattle.bytebuffer.specs.Puts.{Puts}
-use Rattle.bytebuffer.proofs.PutLaws.{and_then, same_bytes_lem, still_full}
+use mir.Syntax.{w64}
+use mir.Val.{SFits, of_z, to_z}
+use mir.Facts.{to_z-of_z}
+use Rattle.std.specs.Prelude.{Option, Some, None}
+use Rattle.bytebuffer.specs.declared.Writer.{Writer}
+use Rattle.bytebuffer.specs.Appends.{Appends}
+use Rattle.bytebuffer.proofs.PutLaws.{and_then, from_start, full_from_start, nothing, same-bytes, still_full}
 use Rattle.valuemarks.specs.Marks.{mark_of, room}
-use Rattle.filewriter.specs.Marking.{Marked, NumberMarked, WrittenAs}
+use Rattle.filewriter.specs.Marking.{HasTokens, Marked, NumberMarked, PutsTokens, WrittenAs}
 
 -- ---- one token
 
@@ -80,23 +84,39 @@ module _ {list : List ℤ} {marks : List ℕ} {ks : List Token} (m : Marked list
     written_is : (x : ℤ) → get_or list i (pos 0) ≡ x → (n : ℕ) → WrittenAs x (get_or marks i 0) n → n ≡ unsigned_of (token_at ks i)
     written_is x e n w = w.is (token_at ks i) (sym e ∙ number_is) mark_is
 
-    module _ {out out' : List ℕ} {at : ℕ} (p : Puts (bytes (take i ks)) out 0 (record { fits = true; at = at }) out') (x : ℤ) (ex : get_or list i (pos 0) ≡ x) (n : ℕ) (w : WrittenAs x (get_or marks i 0) n)
-        {r : End} {out'' : List ℕ} (q : Puts (encoded_of width64 n) out' at r out'') where
-      one_more : Puts (bytes (take (suc i) ks)) out 0 r out''
-      one_more =
-          same_bytes_lem (and_then p refl q)
-          (ap (λ (l : List ℕ). bytes (take i ks) ++ l) (ap (encoded_of width64) (written_is x ex n w) ∙ token-encoded (token_at ks i) (all_get_d m.fit i (plain 0) in_tokens) ∙ sym (append-nil (token_bytes (token_at ks i))))
-          ∙ sym (concat_map-append token_bytes (take i ks) (token_at ks i ∷ [])) ∙ ap bytes (sym (take_next ks i in_tokens)))
+    one_more : {w w' w'' : Writer} {r : Option (Unit {0})} → Appends (bytes (take i ks)) w (Some tt) w' → (x : ℤ) → get_or list i (pos 0) ≡ x → (n : ℕ) → WrittenAs x (get_or marks i 0) n
+        → Appends (encoded_of width64 n) w' r w'' → Appends (bytes (take (i + 1) ks)) w r w''
+    one_more p x ex n k q =
+        same-bytes
+        (ap (λ (l : List ℕ). bytes (take i ks) ++ l) (ap (encoded_of width64) (written_is x ex n k) ∙ token-encoded (token_at ks i) (all_get_d m.fit i (plain 0) in_tokens) ∙ sym (append-nil (token_bytes (token_at ks i))))
+        ∙ sym (concat_map-append token_bytes (take i ks) (token_at ks i ∷ [])) ∙ ap bytes (sym (take_next ks i in_tokens)) ∙ ap (λ (k : ℕ). bytes (take k ks)) (sym (add-one i)))
+        (and_then p q)
 
-      pub next-puts : r.fits ≡ true → Puts (bytes (take (i + 1) ks)) out 0 (record { fits = true; at = r.at }) out''
-      next-puts f =
-          let one : suc i ≡ i + 1 = omega arith in
-          subst (λ (k : ℕ). Puts (bytes (take k ks)) out 0 (record { fits = true; at = r.at }) out'') one (subst (λ (b : End). Puts (bytes (take (suc i) ks)) out 0 b out'') (ap (λ b. record { fits = b; at = r.at }) f) one_more)
+    none_more : {w w' : Writer} → Appends (bytes (take (i + 1) ks)) w None w' → Appends (bytes ks) w None w'
+    none_more p = same-bytes (sym (concat_map-append token_bytes (take (i + 1) ks) (drop (i + 1) ks)) ∙ ap bytes (take-drop ks (i + 1))) (still_full (bytes (drop (i + 1) ks)) p)
 
-      pub full_puts : r.fits ≡ false → Puts (bytes ks) out 0 r out''
-      full_puts f =
-          same_bytes_lem (still_full one_more f (bytes (drop (suc i) ks)))
-          (sym (concat_map-append token_bytes (take (suc i) ks) (drop (suc i) ks)) ∙ ap bytes (take-drop ks (suc i)))
+-- ---- the numbers before i, for all tokens that the list and its marks may be of
 
-  pub all_put : (i : ℕ) → length list ≤ i → {out out' : List ℕ} {r : End} → Puts (bytes (take i ks)) out 0 r out' → Puts (bytes ks) out 0 r out'
-  all_put i h p = same_bytes_lem p (ap bytes (take_all i ks (omega (arith, as_long))))
+pub record NumbersPut (list : List ℤ) (marks : List ℕ) (w : Writer) (i : ℕ) (w' : Writer) : Type 0 where
+  pub same : w'.out.ghost_name ≡ w.out.ghost_name
+  pub puts : (ks : List Token) → Marked list marks ks → Appends (bytes (take i ks)) w (Some tt) w'
+
+module _ {list : List ℤ} {marks : List ℕ} where
+  pub numbers_begin : {w : Writer} → NumbersPut list marks w 0 w
+  numbers_begin {w} = record { same = refl; puts = λ ks m. nothing w }
+
+  pub number_marked : HasTokens list marks → {i : ℕ} → i < length list → SFits w64 (get_or list i (pos 0)) → NumberMarked (to_z w64 (of_z w64 (get_or list i (pos 0)))) (get_or marks i 0)
+  number_marked t {i} h f = token-marked t.marked i h _ (sym (to_z-of_z f))
+
+  module _ {w w' : Writer} {i : ℕ} (p : NumbersPut list marks w i w') where
+    module _ (h : i < length list) (f : SFits w64 (get_or list i (pos 0))) {n : ℕ} (k : WrittenAs (to_z w64 (of_z w64 (get_or list i (pos 0)))) (get_or marks i 0) n) {w'' : Writer} where
+      pub numbers_next : Appends (encoded_of width64 n) w' (Some tt) w'' → NumbersPut list marks w (i + 1) w''
+      numbers_next q = record { same = q.same ∙ p.same; puts = λ ks m. one_more m i h (p.puts ks m) _ (sym (to_z-of_z f)) n k q }
+
+      pub numbers_full : Appends (encoded_of width64 n) w' None w'' → {out : List ℕ} → w.out.now ≡ out → w.at ≡ 0 → PutsTokens list marks out None w''.out.now
+      numbers_full q o z = record { puts = λ ks m. full_from_start o z (none_more m i h (one_more m i h (p.puts ks m) _ (sym (to_z-of_z f)) n k q)) }
+
+    pub numbers_all : length list ≤ i → {out : List ℕ} → w.out.now ≡ out → w.at ≡ 0 → PutsTokens list marks out (Some w'.at) w'.out.now
+    numbers_all h o z = record { puts = λ ks m. from_start o z (same-bytes (ap bytes (take_all i ks (omega (arith, as_long m)))) (p.puts ks m)) }
+
+pub ruleset number_laws = (number_marked, numbers_begin, numbers_next, numbers_full, numbers_all)

@@ -19,7 +19,7 @@ use Rattle.encoding.proofs.ReadBack.{one-at_least, value-one-at_least}
 use Rattle.serialize.specs.NumberList.{list_file}
 use Rattle.serialize.specs.Tokens.{Token, Token.plain, Token.value, bytes_of, guard_tokens, listed, literal_tokens, numbers_of, token_bytes}
 use Rattle.serialize.proofs.Theorems.{read_as_list, tokens-fit}
-use Rattle.bytebuffer.specs.declared.End.{End}
+use Rattle.std.specs.Prelude.{Option}
 use Rattle.bytebuffer.specs.Puts.{Puts}
 use Rattle.listreader.specs.ListReader.{Taken, valueless_row, valueless_rows}
 use Rattle.valuemarks.specs.Marks.{Listed, MarksValues, marks_of, room, until_lines}
@@ -92,7 +92,7 @@ module _ (zs : List ℤ) {t : Tables} (k : Taken (list_file base zs) t) where
   listed-tables =
       let back = (read_as_list base base-supported zs g k.rest k.is).0 in
       record {
-        well_formed_lem = accepted_well_formed base base-supported (bytes_of g) g [] back;
+        well_formed = accepted_well_formed base base-supported (bytes_of g) g [] back;
         total = accepted-total base base-supported (bytes_of g) g [] back;
         short = bytes_read.2;
         types_are = ap (λ (x : Tables). x.types) k.tables ∙ ap type_table taken-types;
@@ -116,7 +116,7 @@ module _ (zs : List ℤ) {t : Tables} (k : Taken (list_file base zs) t) where
   rows_end = omega (arith, list_length)
 
   pub lines-few : t.literals.many ≤ 32
-  lines-few = omega (arith, lines-many, listed-tables.well_formed_lem.line_count)
+  lines-few = omega (arith, lines-many, listed-tables.well_formed.line_count)
 
   pub all-marked : {marks : List ℕ} → MarksValues t.types t.rows (length zs - 1 - 3 * t.literals.many) marks → Marked zs marks (guard_tokens g)
   unfolding marks_of
@@ -124,5 +124,5 @@ module _ (zs : List ℤ) {t : Tables} (k : Taken (list_file base zs) t) where
 
   -- ---- the answer
 
-  pub file-puts : {out : List ℕ} {r : End} {out' : List ℕ} → Puts (bytes (guard_tokens g)) out 0 r out' → Puts (bytes_of g) out 0 r out'
-  file-puts {out} {r} {out'} w = subst (λ (bs : List ℕ). Puts bs out 0 r out') (sym bytes_read.0) w
+  pub file-puts : (out : List ℕ) (r : Option ℕ) (out' : List ℕ) → Puts (bytes (guard_tokens g)) out 0 r out' → Puts (bytes_of g) out 0 r out'
+  file-puts out r out' p = subst (λ (bs : List ℕ). Puts bs out 0 r out') (sym bytes_read.0) p

@@ -1,10 +1,9 @@
 -- The numbers of a list, and which of them are values: what the parts of the writer say of each other. Assumes nothing: definitions.
-use Rattle.std.specs.Prelude.{◌≡◌, List, map, ℕ, ◌≤◌, ℤ, length}
+use Rattle.std.specs.Prelude.{◌≡◌, Option, List, map, ℕ, ◌≤◌, ℤ, length}
 use Rattle.laws.specs.All.{All}
 use Rattle.laws.specs.Lists.{concat_map}
 use Rattle.tables.specs.Layout.{pad}
 use Rattle.serialize.specs.Tokens.{Fits, Token, listed, token_bytes, unsigned_of}
-use Rattle.bytebuffer.specs.declared.End.{End}
 use Rattle.bytebuffer.specs.Puts.{Puts}
 use Rattle.valuemarks.specs.Marks.{mark_of, room}
 
@@ -30,5 +29,5 @@ pub record HasTokens (list : List ℤ) (marks : List ℕ) : Type 0 where
   pub marked : Marked list marks tokens
 
 -- the bytes of the tokens, from the start of the buffer on
-pub record PutsTokens (list : List ℤ) (marks out : List ℕ) (r : End) (out' : List ℕ) : Type 0 where
+pub record PutsTokens (list : List ℤ) (marks out : List ℕ) (r : Option ℕ) (out' : List ℕ) : Type 0 where
   pub puts : (ks : List Token) → Marked list marks ks → Puts (concat_map token_bytes ks) out 0 r out'

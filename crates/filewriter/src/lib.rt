@@ -8,7 +8,7 @@ ghost use Rattle.serialize.specs.NumberList.{list_file};
 ghost use Rattle.filewriter.specs.Marking.{HasTokens, NumberMarked, PutsTokens, WrittenAs};
 ghost use Rattle.filewriter.specs.Writer.{Answered, answer_to, left_by};
 
-use bytebuffer::End;
+use bytebuffer::Writer;
 use guard::Question;
 
 // What a number of the list is written as. A value is folded.
@@ -23,22 +23,17 @@ fn written_number(x: i64, mark: u8) -> u64
 }
 
 // The bytes of all numbers, from the start of the buffer on.
-fn put_numbers(list: &[i64], marks: &[u8; 640], out: &mut [u8]) -> End
+#[tactic(auto, using(crate::proofs::TokenLaws::number_laws))]
+fn put_numbers(list: &[i64], marks: &[u8; 640], out: &mut [u8]) -> Option<usize>
     requires { HasTokens list.now marks.now }
     ensures { PutsTokens list.now marks.now out.old result out.new }
 {
-    let mut at: usize = 0;
+    let mut writer = Writer::new(out);
     for i in 0..list.len() {
-        let x = list[i];
-        let mark = marks[i];
-        let n = written_number(x, mark);
-        let end = numberwriter::put_number(out, at, n);
-        if !end.fits {
-            return end;
-        }
-        at = end.at;
+        let n = written_number(list[i], marks[i]);
+        numberwriter::put_number(&mut writer, n)?;
     }
-    End { fits: true, at }
+    Some(writer.at)
 }
 
 // Fills the buffer with the bytes of the list and zeros behind them, and tells how many bytes they are; with zeros alone where the list
@@ -50,15 +45,13 @@ pub fn write(list: &[i64], out: &mut [u8]) -> Result<usize, Question>
 {
     bytebuffer::clear(out);
     let t = listreader::read_list(list)?;
-    let literals = t.literals;
     // Behind the rows stand L and three numbers for each line.
-    let rows_end = list.len() - 1 - 3 * literals.many;
+    let rows_end = list.len() - 1 - 3 * t.literals.many;
     let mut marks = [0u8; 640];
-    valuemarks::mark_values(t.types, t.rows, rows_end, &mut marks);
-    let end = put_numbers(list, &marks, out);
-    if !end.fits {
+    valuemarks::mark_values(&t.types, &t.rows, rows_end, &mut marks);
+    let Some(end) = put_numbers(list, &marks, out) else {
         bytebuffer::clear(out);
         return Err(Question::FileTooLong);
-    }
-    Ok(end.at)
+    };
+    Ok(end)
 }

@@ -1,5 +1,5 @@
 -- Tables that hold a guard and lines behind its own, and the bytes that are put of them. Assumes nothing: definitions.
-use Rattle.std.specs.Prelude.{◌≡◌, List, ℕ, ◌≤◌, length}
+use Rattle.std.specs.Prelude.{◌≡◌, Option, List, ℕ, ◌≤◌, length}
 use Rattle.guard.specs.Guard.{Guard, Literal}
 use Rattle.guard.specs.Limits.{Limits, base, total_variant_limit}
 use Rattle.guard.specs.WellFormed.{WellFormed}
@@ -9,7 +9,8 @@ use Rattle.tables.specs.declared.LiteralTable.{LiteralTable}
 use Rattle.tables.specs.declared.RowTable.{RowTable}
 use Rattle.tables.specs.declared.TypeTable.{TypeTable}
 use Rattle.serialize.specs.Tokens.{bytes_of}
-use Rattle.bytebuffer.specs.declared.End.{End}
+use Rattle.bytebuffer.specs.declared.Writer.{Writer}
+use Rattle.bytebuffer.specs.Appends.{Appends}
 use Rattle.bytebuffer.specs.Puts.{Puts}
 use Rattle.mergewriter.specs.Merging.{all_literals, all_rows}
 use Rattle.verdictcodes.specs.Codes.{with_more}
@@ -35,11 +36,11 @@ pub record Askable (types : TypeTable) (rows : RowTable) (first second : Literal
 
 -- ---- what is put, whatever guard and lines they hold
 
-pub record PutsRows (types : TypeTable) (rows : RowTable) (first second : LiteralTable) (out : List ℕ) (at : ℕ) (r : End) (out' : List ℕ) : Type 0 where
-  pub puts : (g : Guard) (more : List Literal) → AskedOf types rows first second g more → Puts (all_rows (with_more g more)) out at r out'
+pub record PutsRows (types : TypeTable) (rows : RowTable) (first second : LiteralTable) (w : Writer) (r : Option (Unit {0})) (w' : Writer) : Type 0 where
+  pub puts : (g : Guard) (more : List Literal) → AskedOf types rows first second g more → Appends (all_rows (with_more g more)) w r w'
 
-pub record PutsLines (types : TypeTable) (rows : RowTable) (first second : LiteralTable) (out : List ℕ) (at : ℕ) (r : End) (out' : List ℕ) : Type 0 where
-  pub puts : (g : Guard) (more : List Literal) → AskedOf types rows first second g more → Puts (all_literals (with_more g more)) out at r out'
+pub record PutsLines (types : TypeTable) (rows : RowTable) (first second : LiteralTable) (w : Writer) (r : Option (Unit {0})) (w' : Writer) : Type 0 where
+  pub puts : (g : Guard) (more : List Literal) → AskedOf types rows first second g more → Appends (all_literals (with_more g more)) w r w'
 
-pub record PutsGuard (types : TypeTable) (rows : RowTable) (first second : LiteralTable) (out : List ℕ) (r : End) (out' : List ℕ) : Type 0 where
+pub record PutsGuard (types : TypeTable) (rows : RowTable) (first second : LiteralTable) (out : List ℕ) (r : Option ℕ) (out' : List ℕ) : Type 0 where
   pub puts : (g : Guard) (more : List Literal) → AskedOf types rows first second g more → Puts (bytes_of (with_more g more)) out 0 r out'

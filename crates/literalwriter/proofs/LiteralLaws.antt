@@ -1,7 +1,7 @@
 -- What a table of literals holds, number by number, and the three bytes of a literal. Assumes nothing.
 use mathlib.Core.Path.{◌≡◌, refl, ap, sym, ◌∙◌}
 use mathlib.Core.List.{List, [], ◌∷◌, ◌++◌, map}
-use Prim.Native.Nat.{ℕ, ◌≤◌, ◌<◌}
+use Prim.Native.Nat.{ℕ, ◌+◌, ◌≤◌, ◌<◌}
 use native.Mathlib.Omega.{arith}
 use lib.ListN.{length, get_or}
 use Rattle.laws.specs.Lists.{concat_map}
@@ -19,10 +19,12 @@ use Rattle.encoding.proofs.ReadBack.{one_byte}
 use Rattle.serialize.specs.Tokens.{literal_tokens, token_bytes}
 use Rattle.serialize.proofs.Copying.{concat_map-append}
 use Rattle.merged.specs.Merge.{named, renamed_literal}
-use Rattle.bytebuffer.specs.declared.End.{End}
-use Rattle.bytebuffer.specs.Puts.{Puts}
-use Rattle.bytebuffer.proofs.PutLaws.{same_bytes_lem}
-use Rattle.literalwriter.specs.LiteralBytes.{HasLiteral, PutsLiteral, SmallNames, literal_bytes, no_literal}
+use Rattle.std.specs.Prelude.{Option, Some, None}
+use Rattle.bytebuffer.specs.declared.Writer.{Writer}
+use Rattle.bytebuffer.specs.Appends.{Appends}
+use Rattle.bytebuffer.proofs.EachLaws.{each_all, each_full, each_next, first_bytes}
+use Rattle.bytebuffer.proofs.PutLaws.{nothing, same-bytes}
+use Rattle.literalwriter.specs.LiteralBytes.{HasLiteral, PutsLiteral, PutsLiterals, SmallNames, SomeLiterals, literal_bytes, no_literal}
 
 -- ---- bytes
 
@@ -43,12 +45,12 @@ module _ (names : List ℕ) where
   two-terms (is i v) h p q = absurd (omega arith)
   two-terms (isnt i v) h p q = absurd (omega arith)
 
-  with_variant_lem : (l : Literal) → 2 ≤ literal_kind l → named names (literal_term l) < 128 → literal_other l < 128
+  with-variant : (l : Literal) → 2 ≤ literal_kind l → named names (literal_term l) < 128 → literal_other l < 128
       → literal_kind l ∷ named names (literal_term l) ∷ literal_other l ∷ [] ≡ literal_bytes names l
-  with_variant_lem (equal i j) h p q = absurd (omega arith)
-  with_variant_lem (unequal i j) h p q = absurd (omega arith)
-  with_variant_lem (is i v) h p q = three 2 _ _ (omega arith) p q
-  with_variant_lem (isnt i v) h p q = three 3 _ _ (omega arith) p q
+  with-variant (equal i j) h p q = absurd (omega arith)
+  with-variant (unequal i j) h p q = absurd (omega arith)
+  with-variant (is i v) h p q = three 2 _ _ (omega arith) p q
+  with-variant (isnt i v) h p q = three 3 _ _ (omega arith) p q
 
 -- ---- the range of its numbers
 
@@ -97,7 +99,7 @@ module _ {table : LiteralTable} {ts : Types} {rs : List Row} {ls : List Literal}
 
     variant-bytes : (names : List ℕ) → 2 ≤ get_or table.kinds i 0 → named names (get_or table.terms i 0) < 128 → get_or table.others i 0 < 128
         → get_or table.kinds i 0 ∷ named names (get_or table.terms i 0) ∷ get_or table.others i 0 ∷ [] ≡ literal_bytes names (get_or ls i no_literal)
-    variant-bytes names = rw (kind-held, term-held, other-held) (with_variant_lem names (get_or ls i no_literal))
+    variant-bytes names = rw (kind-held, term-held, other-held) (with-variant names (get_or ls i no_literal))
 
 -- ---- the range of its entries, and their bytes
 
@@ -118,9 +120,40 @@ module _ {table : LiteralTable} {i : ℕ} (has : HasLiteral table i) where
   variant-small k =
       omega (arith, other-held has.some.held i has.inside, variant-below _ _ l fits (omega (arith, kind-held has.some.held i has.inside)), has.some.variants (type_at has.some.ts has.some.rs (literal_term l)))
 
-  module _ {names : List ℕ} (n : SmallNames names) {out out' : List ℕ} {at : ℕ} {r : End} where
-    pub equal_put : get_or table.kinds i 0 < 2 → Puts (get_or table.kinds i 0 ∷ named names (get_or table.terms i 0) ∷ named names (get_or table.others i 0) ∷ []) out at r out' → PutsLiteral table i names out at r out'
-    equal_put k p = record { puts = λ ts rs ls h inside. same_bytes_lem p (equal-bytes h i inside names k (n.small _ term-small) (n.small _ (other-small k))) }
+  module _ {names : List ℕ} (n : SmallNames names) {w w' : Writer} {r : Option (Unit {0})} where
+    pub equal_put : get_or table.kinds i 0 < 2 → Appends (get_or table.kinds i 0 ∷ named names (get_or table.terms i 0) ∷ named names (get_or table.others i 0) ∷ []) w r w' → PutsLiteral table i names w r w'
+    equal_put k p = record { puts = λ ts rs ls h inside. same-bytes (equal-bytes h i inside names k (n.small _ term-small) (n.small _ (other-small k))) p }
 
-    pub variant_put : 2 ≤ get_or table.kinds i 0 → Puts (get_or table.kinds i 0 ∷ named names (get_or table.terms i 0) ∷ get_or table.others i 0 ∷ []) out at r out' → PutsLiteral table i names out at r out'
-    variant_put k p = record { puts = λ ts rs ls h inside. same_bytes_lem p (variant-bytes h i inside names k (n.small _ term-small) (variant-small k)) }
+    pub variant_put : 2 ≤ get_or table.kinds i 0 → Appends (get_or table.kinds i 0 ∷ named names (get_or table.terms i 0) ∷ get_or table.others i 0 ∷ []) w r w' → PutsLiteral table i names w r w'
+    variant_put k p = record { puts = λ ts rs ls h inside. same-bytes (variant-bytes h i inside names k (n.small _ term-small) (variant-small k)) p }
+
+pub ruleset literal_laws = (term-small, other-small, equal_put, variant_put)
+
+-- ---- the literals before i
+
+pub record LiteralsSoFar (table : LiteralTable) (names : List ℕ) (w : Writer) (i : ℕ) (w' : Writer) : Type 0 where
+  pub so_far : (ts : Types) (rs : List Row) (ls : List Literal) → HoldsLiterals table ts rs ls → Appends (first_bytes (literal_bytes names) ls i) w (Some tt) w'
+
+module _ {table : LiteralTable} where
+  pub has_literal : SomeLiterals table → {i : ℕ} → i < table.many → HasLiteral table i
+  has_literal h l = record { some = h; inside = omega (arith, many-held h.held) }
+
+  module _ {names : List ℕ} where
+    pub literals_begin : {w : Writer} → LiteralsSoFar table names w 0 w
+    literals_begin {w} = record { so_far = λ ts rs ls h. nothing w }
+
+    module _ {w w' : Writer} {i : ℕ} (s : LiteralsSoFar table names w i w') where
+      module _ (l : i < table.many) where
+        inside : {ts : Types} {rs : List Row} {ls : List Literal} → HoldsLiterals table ts rs ls → i < length ls
+        inside h = omega (arith, many-held h)
+
+        pub literals_next : {w'' : Writer} → PutsLiteral table i names w' (Some tt) w'' → LiteralsSoFar table names w (i + 1) w''
+        literals_next q = record { so_far = λ ts rs ls h. each_next (literal_bytes names) ls (s.so_far ts rs ls h) (inside h) no_literal (q.puts ts rs ls h (inside h)) }
+
+        pub literals_full : {w'' : Writer} → PutsLiteral table i names w' None w'' → PutsLiterals table names w None w''
+        literals_full q = record { puts = λ ts rs ls h. same-bytes (lines-bytes names ls) (each_full (literal_bytes names) ls (s.so_far ts rs ls h) (inside h) no_literal (q.puts ts rs ls h (inside h))) }
+
+      pub literals_all : table.many ≤ i → PutsLiterals table names w (Some tt) w'
+      literals_all l = record { puts = λ ts rs ls h. same-bytes (lines-bytes names ls) (each_all (literal_bytes names) ls (s.so_far ts rs ls h) (omega (arith, many-held h))) }
+
+pub ruleset literals_laws = (literals_begin, literals_next, literals_full, literals_all)

@@ -1,5 +1,5 @@
 -- The bytes of literals that a table holds, with other numbers for their terms, put into a buffer. Assumes nothing: definitions.
-use Rattle.std.specs.Prelude.{List, map, ℕ, ◌≤◌, ◌<◌, length, get_or}
+use Rattle.std.specs.Prelude.{Option, List, map, ℕ, ◌≤◌, ◌<◌, length, get_or}
 use Rattle.laws.specs.Lists.{concat_map}
 use Rattle.guard.specs.Guard.{Literal, Literal.equal, Row}
 use Rattle.guard.specs.Limits.{variant_limit}
@@ -8,8 +8,8 @@ use Rattle.tables.specs.declared.LiteralTable.{LiteralTable}
 use Rattle.heldparts.specs.Held.{HoldsLiterals}
 use Rattle.serialize.specs.Tokens.{literal_tokens, token_bytes}
 use Rattle.merged.specs.Merge.{named, renamed_literal}
-use Rattle.bytebuffer.specs.declared.End.{End}
-use Rattle.bytebuffer.specs.Puts.{Puts}
+use Rattle.bytebuffer.specs.declared.Writer.{Writer}
+use Rattle.bytebuffer.specs.Appends.{Appends}
 
 abbrev pub literal_bytes : List ℕ → Literal → List ℕ
 literal_bytes names l = concat_map token_bytes (literal_tokens (renamed_literal names l))
@@ -37,9 +37,9 @@ pub record SmallNames (names : List ℕ) : Type 0 where
 
 -- ---- what is put, for all literals that the table may hold
 
-pub record PutsLiteral (table : LiteralTable) (i : ℕ) (names out : List ℕ) (at : ℕ) (r : End) (out' : List ℕ) : Type 0 where
-  pub puts : (ts : Types) (rs : List Row) (ls : List Literal) → HoldsLiterals table ts rs ls → i < length ls → Puts (literal_bytes names (get_or ls i no_literal)) out at r out'
+pub record PutsLiteral (table : LiteralTable) (i : ℕ) (names : List ℕ) (w : Writer) (r : Option (Unit {0})) (w' : Writer) : Type 0 where
+  pub puts : (ts : Types) (rs : List Row) (ls : List Literal) → HoldsLiterals table ts rs ls → i < length ls → Appends (literal_bytes names (get_or ls i no_literal)) w r w'
 
-pub record PutsLiterals (table : LiteralTable) (names out : List ℕ) (at : ℕ) (r : End) (out' : List ℕ) : Type 0 where
+pub record PutsLiterals (table : LiteralTable) (names : List ℕ) (w : Writer) (r : Option (Unit {0})) (w' : Writer) : Type 0 where
   pub puts : (ts : Types) (rs : List Row) (ls : List Literal) → HoldsLiterals table ts rs ls
-      → Puts (concat_map token_bytes (concat_map literal_tokens (map (renamed_literal names) ls))) out at r out'
+      → Appends (concat_map token_bytes (concat_map literal_tokens (map (renamed_literal names) ls))) w r w'

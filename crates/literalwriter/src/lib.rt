@@ -2,42 +2,36 @@
 // Every number of a line is below 128, and so one byte.
 #![tactic(auto)]
 
-ghost use Rattle.std.specs.Prelude.{◌≤◌, length};
 ghost use Rattle.literalwriter.specs.LiteralBytes.{HasLiteral, PutsLiteral, PutsLiterals, SmallNames, SomeLiterals};
 
-use bytebuffer::End;
+use bytebuffer::Writer;
 use tables::LiteralTable;
 
 // The kind, a term, and a second term or a variant.
-fn put_literal(literals: LiteralTable, i: usize, names: &[u8; 24], out: &mut [u8], at: usize) -> End
-    requires has_literal { HasLiteral literals i }
+#[tactic(auto, using(crate::proofs::LiteralLaws::literal_laws))]
+fn put_literal(literals: &LiteralTable, i: usize, names: &[u8; 24], out: &mut Writer) -> Option<()>
+    requires has_literal { HasLiteral literals.now i }
     requires small_names { SmallNames names.now }
-    requires at_in_bounds { at ≤ length out.old }
-    ensures { PutsLiteral literals i names.now out.old at result out.new }
+    ensures { PutsLiteral literals.now i names.now out.old result out.new }
 {
     let kind = literals.kinds[i];
     let term = names[literals.terms[i] as usize];
     let other = literals.others[i];
     if kind < 2 {
-        return bytebuffer::put_three(out, at, kind, term, names[other as usize]);
+        return out.put(&[kind, term, names[other as usize]]);
     }
-    bytebuffer::put_three(out, at, kind, term, other)
+    out.put(&[kind, term, other])
 }
 
 // All literals. `names` has the number that each term gets.
-pub fn put_literals(literals: LiteralTable, names: &[u8; 24], out: &mut [u8], at: usize) -> End
-    requires some_literals { SomeLiterals literals }
+#[tactic(auto, using(crate::proofs::LiteralLaws::literals_laws))]
+pub fn put_literals(literals: &LiteralTable, names: &[u8; 24], out: &mut Writer) -> Option<()>
+    requires some_literals { SomeLiterals literals.now }
     requires small_names { SmallNames names.now }
-    requires at_in_bounds { at ≤ length out.old }
-    ensures { PutsLiterals literals names.now out.old at result out.new }
+    ensures { PutsLiterals literals.now names.now out.old result out.new }
 {
-    let many = literals.many;
-    let mut end = End { fits: true, at };
-    for i in 0..many {
-        if !end.fits {
-            return end;
-        }
-        end = put_literal(literals, i, names, out, end.at);
+    for i in 0..literals.many {
+        put_literal(literals, i, names, out)?;
     }
-    end
+    Some(())
 }

@@ -14,10 +14,10 @@ use reader::Tables;
 use renaming::Names;
 
 // The questions after 15, asked of two guards with the same types.
-fn ask(first: Tables, second: Tables, n: Names) -> Result<(), Question>
-    requires { TwoGuards first second }
-    ensures asks { AsksBoth first second n result }
-    ensures room { OnOk result ((n.rows ≤ 24) × (first.literals.many + second.literals.many ≤ 32)) }
+fn ask(first: &Tables, second: &Tables, n: &Names) -> Result<(), Question>
+    requires { TwoGuards first.now second.now }
+    ensures asks { AsksBoth first.now second.now n.now result }
+    ensures room { OnOk result ((n.now.rows ≤ 24) × (first.now.literals.many + second.now.literals.many ≤ 32)) }
 {
     if !n.agree {
         return Err(Question::VariablesDiffer);
@@ -25,28 +25,26 @@ fn ask(first: Tables, second: Tables, n: Names) -> Result<(), Question>
     if 24 < n.rows {
         return Err(Question::TooMany);
     }
-    let ones = first.literals;
-    let others = second.literals;
-    if 32 < ones.many + others.many {
+    let lines = first.literals.many + second.literals.many;
+    if 32 < lines {
         return Err(Question::TooMany);
     }
     Ok(())
 }
 
 // The file of two guards with the same types, in a buffer of zeros.
-fn merge_guards(first: Tables, second: Tables, out: &mut [u8]) -> Result<usize, Question>
-    requires two_guards { TwoGuards first second }
+fn merge_guards(first: &Tables, second: &Tables, out: &mut [u8]) -> Result<usize, Question>
+    requires two_guards { TwoGuards first.now second.now }
     requires out_value { out.old ≡ replicate (length out.old) 0 }
-    ensures { AnswersBoth first second out.old result out.new }
+    ensures { AnswersBoth first.now second.now out.old result out.new }
 {
     let n = renaming::names_of(first.rows, second.rows);
-    ask(first, second, n)?;
-    let end = mergewriter::put_merged(first, second, n, out);
-    if !end.fits {
+    ask(first, second, &n)?;
+    let Some(end) = mergewriter::put_merged(first, second, &n, out) else {
         bytebuffer::clear(out);
         return Err(Question::FileTooLong);
-    }
-    Ok(end.at)
+    };
+    Ok(end)
 }
 
 // The file of a guard that holds exactly where both do, zeros behind it, and the number of its bytes; or the first question that gets a no, and
@@ -61,5 +59,5 @@ pub fn merge(first: &[u8], second: &[u8], out: &mut [u8]) -> Result<usize, Quest
     if !sametypes::same_types(a.types, b.types) {
         return Err(Question::TypesDiffer);
     }
-    merge_guards(a, b, out)
+    merge_guards(&a, &b, out)
 }

@@ -1,23 +1,23 @@
 -- Three parts put one behind the other are the whole. Assumes nothing.
 use mathlib.Core.Path.{◌≡◌}
-use mathlib.Core.Bool.{true, false}
 use mathlib.Core.List.{List, ◌++◌}
 use Prim.Native.Nat.{ℕ}
-use Rattle.bytebuffer.specs.declared.End.{End}
-use Rattle.bytebuffer.specs.Puts.{Puts}
-use Rattle.bytebuffer.proofs.PutLaws.{and_then, same_bytes_lem, still_full}
+use Rattle.std.specs.Prelude.{Option, Some, None}
+use Rattle.bytebuffer.specs.declared.Writer.{Writer}
+use Rattle.bytebuffer.specs.Appends.{Appends}
+use Rattle.bytebuffer.proofs.PutLaws.{and_then, same-bytes, still_full}
 
 -- three parts of a whole
 pub record Parts (one two three whole : List ℕ) : Type 0 where
   pub are : one ++ (two ++ three) ≡ whole
 
-module _ {one two three whole : List ℕ} (parts : Parts one two three whole) {out out₁ : List ℕ} {at : ℕ} {r₁ : End} (first : Puts one out at r₁ out₁) where
-  pub first_full : r₁.fits ≡ false → Puts whole out at r₁ out₁
-  first_full q = same_bytes_lem (still_full first q (two ++ three)) parts.are
+module _ {one two three whole : List ℕ} (parts : Parts one two three whole) {w w₁ : Writer} where
+  pub first_full : Appends one w None w₁ → Appends whole w None w₁
+  first_full first = same-bytes parts.are (still_full (two ++ three) first)
 
-  module _ (fits : r₁.fits ≡ true) {out₂ : List ℕ} {r₂ : End} (second : Puts two out₁ r₁.at r₂ out₂) where
-    pub second_full : r₂.fits ≡ false → Puts whole out at r₂ out₂
-    second_full q = same_bytes_lem (and_then first fits (still_full second q three)) parts.are
+  module _ (first : Appends one w (Some tt) w₁) {w₂ : Writer} where
+    pub second_full : Appends two w₁ None w₂ → Appends whole w None w₂
+    second_full second = same-bytes parts.are (and_then first (still_full three second))
 
-    pub all_put : r₂.fits ≡ true → {out₃ : List ℕ} {r₃ : End} → Puts three out₂ r₂.at r₃ out₃ → Puts whole out at r₃ out₃
-    all_put q third = same_bytes_lem (and_then first fits (and_then second q third)) parts.are
+    pub all_put : Appends two w₁ (Some tt) w₂ → {r : Option (Unit {0})} {w₃ : Writer} → Appends three w₂ r w₃ → Appends whole w r w₃
+    all_put second third = same-bytes parts.are (and_then first (and_then second third))

@@ -1,5 +1,5 @@
 -- Two guards by their tables, and the bytes that are put of them. Assumes nothing: definitions.
-use Rattle.std.specs.Prelude.{◌≡◌, List, ◌∷◌, ℕ, ◌+◌, ◌≤◌, length}
+use Rattle.std.specs.Prelude.{◌≡◌, Option, List, ◌∷◌, ℕ, ◌+◌, ◌≤◌, length}
 use Rattle.laws.specs.Lists.{concat_map}
 use Rattle.guard.specs.Guard.{Guard}
 use Rattle.guard.specs.Limits.{base, total_variant_limit}
@@ -8,7 +8,8 @@ use Rattle.tables.specs.Layout.{flat}
 use Rattle.reader.specs.declared.Tables.{Tables}
 use Rattle.reader.specs.Reader.{guard_tables}
 use Rattle.serialize.specs.Tokens.{Token.plain, bytes_of, literal_tokens, row_tokens, token_bytes}
-use Rattle.bytebuffer.specs.declared.End.{End}
+use Rattle.bytebuffer.specs.declared.Writer.{Writer}
+use Rattle.bytebuffer.specs.Appends.{Appends}
 use Rattle.bytebuffer.specs.Puts.{Puts}
 use Rattle.renaming.specs.declared.Names.{Names}
 use Rattle.renaming.specs.Names.{NamesOf}
@@ -47,11 +48,11 @@ all_rows g = concat_map token_bytes (plain (length g.rows) ∷ concat_map row_to
 abbrev pub all_literals : Guard → List ℕ
 all_literals g = concat_map token_bytes (plain (length g.literals) ∷ concat_map literal_tokens g.literals)
 
-pub record PutsAllRows (first second : Tables) (out : List ℕ) (at : ℕ) (end : End) (out' : List ℕ) : Type 0 where
-  pub puts : (g h : Guard) → BothOf first second g h → Puts (all_rows (merged g h)) out at end out'
+pub record PutsAllRows (first second : Tables) (w : Writer) (result : Option (Unit {0})) (w' : Writer) : Type 0 where
+  pub puts : (g h : Guard) → BothOf first second g h → Appends (all_rows (merged g h)) w result w'
 
-pub record PutsAllLiterals (first second : Tables) (out : List ℕ) (at : ℕ) (end : End) (out' : List ℕ) : Type 0 where
-  pub puts : (g h : Guard) → BothOf first second g h → Puts (all_literals (merged g h)) out at end out'
+pub record PutsAllLiterals (first second : Tables) (w : Writer) (result : Option (Unit {0})) (w' : Writer) : Type 0 where
+  pub puts : (g h : Guard) → BothOf first second g h → Appends (all_literals (merged g h)) w result w'
 
-pub record PutsMerged (first second : Tables) (out : List ℕ) (end : End) (out' : List ℕ) : Type 0 where
-  pub puts : (g h : Guard) → BothOf first second g h → Puts (bytes_of (merged g h)) out 0 end out'
+pub record PutsMerged (first second : Tables) (out : List ℕ) (result : Option ℕ) (out' : List ℕ) : Type 0 where
+  pub puts : (g h : Guard) → BothOf first second g h → Puts (bytes_of (merged g h)) out 0 result out'

@@ -1,11 +1,11 @@
 // The bytes of two guards as one, from their tables (request #107). `specs/Merging.antt` says what is put.
 #![tactic(auto)]
 
-ghost use Rattle.std.specs.Prelude.{◌≡◌, ◌≤◌, length};
+ghost use Rattle.std.specs.Prelude.{◌≡◌};
 ghost use Rattle.laws.specs.Lists.{from};
 ghost use Rattle.mergewriter.specs.Merging.{Merging, PutsAllLiterals, PutsAllRows, PutsMerged};
 
-use bytebuffer::End;
+use bytebuffer::Writer;
 use reader::Tables;
 use renaming::Names;
 
@@ -19,59 +19,35 @@ pub fn own_names() -> [u8; 24]
 }
 
 // N, and the rows of both guards.
-fn put_all_rows(first: Tables, second: Tables, n: Names, out: &mut [u8], at: usize) -> End
-    requires at_in_bounds { at ≤ length out.old }
-    requires merging { Merging first second n }
-    ensures { PutsAllRows first second out.old at result out.new }
+fn put_all_rows(first: &Tables, second: &Tables, n: &Names, out: &mut Writer) -> Option<()>
+    requires { Merging first.now second.now n.now }
+    ensures { PutsAllRows first.now second.now out.old result out.new }
 {
-    let counted = bytebuffer::put_one(out, at, n.rows as u8);
-    if !counted.fits {
-        return counted;
-    }
+    out.put(&[n.rows as u8])?;
     let own = own_names();
     let none = [0u8; 24];
-    let end = rowwriter::put_rows(first.types, first.rows, &own, &none, out, counted.at);
-    if !end.fits {
-        return end;
-    }
-    let names = n.names;
-    let skipped = n.skipped;
-    rowwriter::put_rows(second.types, second.rows, &names, &skipped, out, end.at)
+    rowwriter::put_rows(&first.types, &first.rows, &own, &none, out)?;
+    rowwriter::put_rows(&second.types, &second.rows, &n.names, &n.skipped, out)
 }
 
 // L, and the lines of both guards.
-fn put_all_literals(first: Tables, second: Tables, n: Names, out: &mut [u8], at: usize) -> End
-    requires at_in_bounds { at ≤ length out.old }
-    requires merging { Merging first second n }
-    ensures { PutsAllLiterals first second out.old at result out.new }
+fn put_all_literals(first: &Tables, second: &Tables, n: &Names, out: &mut Writer) -> Option<()>
+    requires { Merging first.now second.now n.now }
+    ensures { PutsAllLiterals first.now second.now out.old result out.new }
 {
-    let ones = first.literals;
-    let others = second.literals;
-    let counted = bytebuffer::put_one(out, at, (ones.many + others.many) as u8);
-    if !counted.fits {
-        return counted;
-    }
-    let own = own_names();
-    let end = literalwriter::put_literals(ones, &own, out, counted.at);
-    if !end.fits {
-        return end;
-    }
-    let names = n.names;
-    literalwriter::put_literals(others, &names, out, end.at)
+    out.put(&[(first.literals.many + second.literals.many) as u8])?;
+    literalwriter::put_literals(&first.literals, &own_names(), out)?;
+    literalwriter::put_literals(&second.literals, &n.names, out)
 }
 
 // The merged file, from the start of the buffer on.
-pub fn put_merged(first: Tables, second: Tables, n: Names, out: &mut [u8]) -> End
-    requires { Merging first second n }
-    ensures { PutsMerged first second out.old result out.new }
+pub fn put_merged(first: &Tables, second: &Tables, n: &Names, out: &mut [u8]) -> Option<usize>
+    requires { Merging first.now second.now n.now }
+    ensures { PutsMerged first.now second.now out.old result out.new }
 {
-    let typed = typewriter::put_types(first.types, out, 0);
-    if !typed.fits {
-        return typed;
-    }
-    let end = put_all_rows(first, second, n, out, typed.at);
-    if !end.fits {
-        return end;
-    }
-    put_all_literals(first, second, n, out, end.at)
+    let mut writer = Writer::new(out);
+    typewriter::put_types(&first.types, &mut writer)?;
+    put_all_rows(first, second, n, &mut writer)?;
+    put_all_literals(first, second, n, &mut writer)?;
+    Some(writer.at)
 }

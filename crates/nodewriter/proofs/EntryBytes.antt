@@ -1,19 +1,20 @@
 -- The bytes of entries: all their numbers take a byte each. So a closing is written as its two numbers, and a split as three. Assumes nothing.
 use mathlib.Core.Path.{◌≡◌, refl, ap, ap₂, sym, ◌∙◌}
-use mathlib.Core.List.{List, [], ◌∷◌, ◌++◌, append_assoc, Memᴰ}
-use mathlib.Core.Option.{Option, none, some}
+use mathlib.Core.List.{List, [], ◌∷◌, ◌++◌, append_assoc}
 use Prim.Native.Nat.{ℕ, ◌≤◌, ◌<◌}
 use native.Mathlib.Omega.{arith}
+use Rattle.std.specs.Prelude.{Option, Some}
 use Rattle.laws.specs.All.{All, All.more, All.none}
 use Rattle.laws.specs.Lists.{concat_map}
-use Rattle.laws.proofs.Lists.{all_mem}
+use Rattle.guard.specs.Closure.{State}
 use Rattle.guard.specs.Node.{Split}
 use Rattle.encoding.specs.Encoding.{encoded}
 use Rattle.encoding.proofs.ReadBack.{one_byte}
-use Rattle.refutations.specs.Record.{Entry, Entry.split_on, bytes_of, closings}
-use Rattle.refutations.proofs.ClaimLaws.{closings-all}
+use Rattle.refutations.specs.Record.{Entry, Entry.split_on, bytes_of, numbers_of}
+use Rattle.instance.specs.declared.Instance.{Instance}
 use Rattle.closings.specs.declared.Closing.{Closing}
-use Rattle.closings.specs.Closing.{closing_of}
+use Rattle.closings.specs.declared.Closing.TheVariants.{BrokenLine, EmptyLabel, InsideItself, UnlikeConstants}
+use Rattle.closings.specs.Closing.{Names, entry_in}
 
 plain : (ns : List ℕ) → All (λ n. n < 128) ns → concat_map encoded ns ≡ ns
 plain [] none = refl
@@ -26,28 +27,17 @@ bytes-append (e ∷ es) fs = ap (λ (bs : List ℕ). bytes_of e ++ bs) (bytes-ap
 pub split-bytes : (d : Split) → d.term < 128 → d.variant < 128 → bytes_of (split_on d) ≡ 4 ∷ d.term ∷ d.variant ∷ []
 split-bytes d h k = plain (4 ∷ d.term ∷ d.variant ∷ []) (more (omega arith) (more h (more k none)))
 
--- an entry that closes a node
-Closes : Entry → Type 0
-Closes e = ((closing_of (some e)).kind < 4) × (bytes_of e ≡ (closing_of (some e)).kind ∷ (closing_of (some e)).number ∷ [])
+-- what code names at a node of an instance
+abbrev pub Named : Instance → State → Option Closing → Type 0
+Named i = Names i.shapes.slots i.sorts.sorts i.sorts.full i.constants.sorts i.constants.values i.lines.kinds i.lines.terms i.lines.others i.lines.many
 
-closings_close : (many : ℕ) → many ≤ 128 → All Closes (closings many)
-unfolding Closes
-closings_close many l =
-    closings-all many (λ i h. (omega arith, two 0 i (omega arith) (omega arith))) (λ j h. (omega arith, two 1 j (omega arith) (omega arith))) (λ i h. (omega arith, two 2 i (omega arith) (omega arith)))
-    (λ i h. (omega arith, two 3 i (omega arith) (omega arith)))
-  where
-    two : (k i : ℕ) → k < 128 → i < 128 → concat_map encoded (k ∷ i ∷ []) ≡ k ∷ i ∷ []
-    two k i p q = plain (k ∷ i ∷ []) (more p (more q none))
+-- a closing has two numbers below 128
+module _ (i : Instance) (s : State) (few : i.lines.many ≤ 64) {reason number : ℕ} where
+  small : (c : Closing) → Named i s (Some c) → numbers_of (entry_in c) ≡ reason ∷ number ∷ [] → (reason < 128) × (number < 128)
+  small (EmptyLabel x) n e = let p : 0 ≡ reason = cc in let q : x ≡ number = cc in (omega (arith, p), omega (arith, q, n.0))
+  small (BrokenLine j) n e = let p : 1 ≡ reason = cc in let q : j ≡ number = cc in (omega (arith, p), omega (arith, q, n.1, few))
+  small (UnlikeConstants x) n e = let p : 2 ≡ reason = cc in let q : x ≡ number = cc in (omega (arith, p), omega (arith, q, n.2))
+  small (InsideItself x) n e = let p : 3 ≡ reason = cc in let q : x ≡ number = cc in (omega (arith, p), omega (arith, q, n.3))
 
--- a closing, by its two numbers
-module _ (many : ℕ) (few : many ≤ 128) (c : Closing) where
-  pub some-closing : (o : Option Entry) → ((e : Entry) → o ≡ some e → Memᴰ e (closings many)) → c ≡ closing_of o → c.kind < 4
-      → (e : Entry) × (o ≡ some e) × (bytes_of e ≡ c.kind ∷ c.number ∷ [])
-  unfolding Closes
-  some-closing none m q h = absurd (omega (arith, h, ap (λ (x : Closing). x.kind) q))
-  some-closing (some e) m q h = (e, refl, (all_mem (closings_close many few) e (m e refl)).1 ∙ ap (λ (x : Closing). x.kind ∷ x.number ∷ []) (sym q))
-
-  pub no-closing : (o : Option Entry) → ((e : Entry) → o ≡ some e → Memᴰ e (closings many)) → c ≡ closing_of o → 4 ≤ c.kind → o ≡ none
-  unfolding Closes
-  no-closing none m q h = refl
-  no-closing (some e) m q h = absurd (omega (arith, h, ap (λ (x : Closing). x.kind) q, (all_mem (closings_close many few) e (m e refl)).0))
+  pub closing-bytes : (c : Closing) → Named i s (Some c) → numbers_of (entry_in c) ≡ reason ∷ number ∷ [] → bytes_of (entry_in c) ≡ reason ∷ number ∷ []
+  closing-bytes c n e = let (p, q) = small c n e in ap (concat_map encoded) e ∙ plain (reason ∷ number ∷ []) (more p (more q none))

@@ -1,35 +1,22 @@
-// A number in seven-bit groups, low group first, into a lent buffer.
+// A number in seven-bit groups, low group first, behind what a writer has written.
 #![tactic(auto)]
 
-ghost use Rattle.std.specs.Prelude.{◌≡◌, ◌≤◌, length};
 ghost use Rattle.guard.specs.Number.{width64};
 ghost use Rattle.encoding.specs.Encoding.{encoded_of};
-ghost use Rattle.bytebuffer.specs.Puts.{Puts};
+ghost use Rattle.bytebuffer.specs.Appends.{Appends};
 
-use bytebuffer::End;
+use bytebuffer::Writer;
 
-// The bytes of a number of 64 bits from place `at` on, if they fit: up to ten, as a constant's value may have. Counts and names have the same bytes as
-// they have among numbers of 32 bits.
-pub fn put_number(out: &mut [u8], at: usize, n: u64) -> End
-    requires { at ≤ length out.old }
-    ensures { Puts (encoded_of width64 n) out.old at result out.new }
+// The bytes of a number of 64 bits, if they fit: up to ten, as a constant's value may have. Counts and names have the same bytes as they have among
+// numbers of 32 bits.
+#[tactic(auto, using(crate::proofs::Midway::begin, crate::proofs::Midway::further))]
+pub fn put_number(out: &mut Writer, n: u64) -> Option<()>
+    ensures { Appends (encoded_of width64 n) out.old result out.new }
 {
     let mut rest = n;
-    let mut next = at;
     while 128 <= rest {
-        if out.len() <= next {
-            return End { fits: false, at };
-        }
-        out[next] = (128 + rest % 128) as u8;
+        out.put(&[(128 + rest % 128) as u8])?;
         rest /= 128;
-        next += 1;
     }
-    if out.len() <= next {
-        return End { fits: false, at };
-    }
-    out[next] = rest as u8;
-    End {
-        fits: true,
-        at: next + 1,
-    }
+    out.put(&[rest as u8])
 }

@@ -1,20 +1,34 @@
 -- The root begins with what is given. Assumes nothing.
 use mathlib.Core.Path.{◌≡◌}
-use mathlib.Core.List.{List, foldl}
+use mathlib.Core.List.{List}
 use Prim.Native.Nat.{ℕ}
-use Rattle.guard.specs.Closure.{State, add}
-use Rattle.guard.proofs.ClosureEnds.{first}
+use Rattle.std.specs.Prelude.{Option, Some, None}
+use Rattle.guard.specs.Guard.{Guard}
 use Rattle.reader.specs.declared.Tables.{Tables}
-use Rattle.problem.specs.declared.Problem.{Problem}
-use Rattle.problem.specs.Columns.{problem_by}
-use Rattle.roots.proofs.RootLaws.{arrays_of, given_in, root_begun}
-use Rattle.refutations.specs.Record.{record_of}
-use Rattle.bytebuffer.specs.declared.End.{End}
+use Rattle.reader.specs.Reader.{guard_tables}
+use Rattle.search.specs.Nodes.{Accepted}
+use Rattle.roots.specs.Guards.{GuardsTables}
+use Rattle.roots.specs.Roots.{IsRoot}
+use Rattle.roots.specs.declared.Root.{Root}
+use Rattle.refutations.specs.Record.{record_bytes, record_of}
+use Rattle.bytebuffer.specs.declared.Writer.{Writer}
+use Rattle.bytebuffer.specs.Appends.{Appends}
+use Rattle.bytebuffer.proofs.PutLaws.{from_start, full_from_start}
 use Rattle.nodewriter.specs.Writes.{Writes}
 use Rattle.rootwriter.specs.RootRecord.{RootPuts}
 
-pub root-puts : (tables : Tables) (p : Problem) → p ≡ problem_by tables → (s : State) → s ≡ foldl add (first 96) (given_in tables p) → {out : List ℕ} {r : End} {out' : List ℕ}
-    → Writes p.shapes p.reads p.sorts p.full p.fieldless p.constants tables.rows.values tables.literals.kinds tables.literals.terms tables.literals.others tables.literals.many s out 0 r out'
-    → RootPuts tables out r out'
-unfolding record_of
-root-puts tables p ep s es w = record { puts = λ g ok is. w.puts g g.literals ok (arrays_of tables p ep g ok is) (root_begun tables p ep g ok is s es) }
+module _ {tables : Tables} {root : Root} (is : IsRoot tables root) {w w' : Writer} where
+  written : {r : Option (Unit {0})} → Writes root.instance root.reads.slots root.state w r w' → (g : Guard) → Accepted g → tables ≡ guard_tables g → Appends (record_bytes g) w r w'
+  unfolding record_of
+  written p g ok e = p.puts g g.literals ok (is.arrays g ok e) (is.begun g ok e)
+
+  -- the writer still has the buffer
+  pub same_buffer : GuardsTables tables → {r : Option (Unit {0})} → Writes root.instance root.reads.slots root.state w r w' → w'.out.ghost_name ≡ w.out.ghost_name
+  same_buffer k p = (written p k.guard k.accepted k.is).same
+
+  module _ {out : List ℕ} (e : w.out.now ≡ out) (z : w.at ≡ 0) where
+    pub root-puts : Writes root.instance root.reads.slots root.state w (Some tt) w' → RootPuts tables out (Some w'.at) w'.out.now
+    root-puts p = record { puts = λ g ok is. from_start e z (written p g ok is) }
+
+    pub root_outgrows : Writes root.instance root.reads.slots root.state w None w' → RootPuts tables out None w'.out.now
+    root_outgrows p = record { puts = λ g ok is. full_from_start e z (written p g ok is) }

@@ -1,6 +1,5 @@
 -- The bytes of a row, one behind the other. Assumes nothing.
 use mathlib.Core.Path.{◌≡◌, refl, ap, ap₂, sym, ◌∙◌}
-use mathlib.Core.Bool.{true}
 use mathlib.Core.List.{List, [], ◌∷◌, ◌++◌, append_assoc, map}
 use Prim.Native.Nat.{ℕ, suc, ◌<◌}
 use native.Mathlib.Omega.{arith}
@@ -11,9 +10,10 @@ use Rattle.serialize.specs.Tokens.{Token.plain, token_bytes}
 use Rattle.encoding.specs.Encoding.{encoded}
 use Rattle.encoding.proofs.ReadBack.{one_byte}
 use Rattle.merged.specs.Merge.{named}
-use Rattle.bytebuffer.specs.declared.End.{End}
-use Rattle.bytebuffer.specs.Puts.{Puts}
-use Rattle.bytebuffer.proofs.PutLaws.{and_then, same_bytes_lem}
+use Rattle.std.specs.Prelude.{Option, Some, None}
+use Rattle.bytebuffer.specs.declared.Writer.{Writer}
+use Rattle.bytebuffer.specs.Appends.{Appends}
+use Rattle.bytebuffer.proofs.PutLaws.{and_then, same-bytes, still_full}
 use Rattle.rowterms.specs.Rows.{row_bytes, up_to}
 use Rattle.rowterms.proofs.LoopLaws.{from_front}
 
@@ -35,14 +35,18 @@ parts-bytes names f (p ∷ ps) h =
 
 -- ---- field reads
 
-module _ (names : List ℕ) (a v p : ℕ) (vs : v < 128) (ps : p < 128) where
-  two-last : encoded 3 ++ (encoded (named names a) ++ (v ∷ p ∷ [])) ≡ row_bytes names (field 0 a v p)
-  two-last = ap (λ (l : List ℕ). encoded 3 ++ (encoded (named names a) ++ l)) (two_bytes v p vs ps [])
+module _ (names : List ℕ) (a v p : ℕ) {w w' : Writer} where
+  pub field_none : Appends (encoded 3) w None w' → Appends (row_bytes names (field 0 a v p)) w None w'
+  field_none first = still_full (encoded (named names a) ++ (encoded v ++ (encoded p ++ []))) first
 
-  module _ {out out' : List ℕ} {at : ℕ} {end : End} (first : Puts (encoded 3) out at end out') where
-    module _ (e : end.fits ≡ true) {end' : End} {out'' : List ℕ} (second : Puts (encoded (named names a)) out' end.at end' out'') where
-      two_behind : (encoded 3 ++ encoded (named names a)) ++ (v ∷ p ∷ []) ≡ row_bytes names (field 0 a v p)
-      two_behind = append_assoc (encoded 3) (encoded (named names a)) (v ∷ p ∷ []) ∙ two-last
+  module _ (first : Appends (encoded 3) w (Some tt) w') {w'' : Writer} where
+    pub field_short : Appends (encoded (named names a)) w' None w'' → Appends (row_bytes names (field 0 a v p)) w None w''
+    field_short second =
+        same-bytes (append_assoc (encoded 3) (encoded (named names a)) (encoded v ++ (encoded p ++ []))) (still_full (encoded v ++ (encoded p ++ [])) (and_then first second))
 
-      pub field_put : end'.fits ≡ true → {last : End} {out''' : List ℕ} → Puts (v ∷ p ∷ []) out'' end'.at last out''' → Puts (row_bytes names (field 0 a v p)) out at last out'''
-      field_put q w = same_bytes_lem (and_then (and_then first e second) q w) two_behind
+    pub field_put : v < 128 → p < 128 → Appends (encoded (named names a)) w' (Some tt) w'' → {r : Option (Unit {0})} {last : Writer} → Appends (v ∷ p ∷ []) w'' r last
+        → Appends (row_bytes names (field 0 a v p)) w r last
+    field_put vs ps second q =
+        same-bytes
+        (append_assoc (encoded 3) (encoded (named names a)) (v ∷ p ∷ []) ∙ ap (λ (l : List ℕ). encoded 3 ++ (encoded (named names a) ++ l)) (two_bytes v p vs ps []))
+        (and_then (and_then first second) q)

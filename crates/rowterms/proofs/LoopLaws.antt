@@ -1,13 +1,13 @@
 -- Bytes put by a loop, some for each number below n, one after the other. Assumes nothing.
-use mathlib.Core.Path.{◌≡◌, refl, ap, sym, subst, ◌∙◌}
-use mathlib.Core.Bool.{true, false}
+use mathlib.Core.Path.{◌≡◌, ap, sym, ◌∙◌}
 use mathlib.Core.List.{List, [], ◌++◌, append_assoc, append-nil}
 use Prim.Native.Nat.{ℕ, zero, suc, ◌+◌, ◌-◌, ◌<◌}
 use native.Mathlib.Omega.{arith}
 use native.Mathlib.Numerals.{add-one}
-use Rattle.bytebuffer.specs.declared.End.{End}
-use Rattle.bytebuffer.specs.Puts.{Puts}
-use Rattle.bytebuffer.proofs.PutLaws.{and_then, same_bytes_lem, still_full}
+use Rattle.std.specs.Prelude.{Some, None}
+use Rattle.bytebuffer.specs.declared.Writer.{Writer}
+use Rattle.bytebuffer.specs.Appends.{Appends}
+use Rattle.bytebuffer.proofs.PutLaws.{and_then, nothing, same-bytes, still_full}
 use Rattle.rowterms.specs.Rows.{up_to}
 
 -- ---- the bytes
@@ -26,17 +26,22 @@ module _ (f : ℕ → List ℕ) where
 
 -- ---- the loop
 
-module _ (f : ℕ → List ℕ) (i : ℕ) {out : List ℕ} {at at' : ℕ} {out' : List ℕ} (p : Puts (up_to f i) out at (record { fits = true; at = at' }) out') where
-  module _ {r : End} {out'' : List ℕ} (q : Puts (f i) out' at' r out'') where
-    pub next-puts : r.fits ≡ true → Puts (up_to f (i + 1)) out at (record { fits = true; at = r.at }) out''
-    next-puts e = rw (add-one i) (subst (λ (b : End). Puts (up_to f (suc i)) out at b out'') (ap (λ b. record { fits = b; at = r.at }) e) (and_then p refl q))
+module _ (f : ℕ → List ℕ) where
+  pub loop_begin : (w : Writer) → Appends (up_to f 0) w (Some tt) w
+  loop_begin w = nothing w
 
-    pub full_puts : (n : ℕ) → i < n → r.fits ≡ false → Puts (up_to f n) out at r out''
-    full_puts n h e =
+  module _ {i : ℕ} {w w' : Writer} (p : Appends (up_to f i) w (Some tt) w') where
+    pub loop_next : {w'' : Writer} → Appends (f i) w' (Some tt) w'' → Appends (up_to f (i + 1)) w (Some tt) w''
+    loop_next q = rw (add-one i) (and_then p q)
+
+    pub loop_full : {w'' : Writer} → Appends (f i) w' None w'' → (n : ℕ) → i < n → Appends (up_to f n) w None w''
+    loop_full q n h =
         let (more, same) = between f (suc i) (n - suc i) in
         let all : n - suc i + suc i ≡ n = omega arith in
-        same_bytes_lem (still_full (and_then p refl q) e more) (same ∙ ap (up_to f) all)
+        same-bytes (same ∙ ap (up_to f) all) (still_full more (and_then p q))
 
-  -- nothing is put at i
-  pub skip_puts : f i ≡ [] → Puts (up_to f (i + 1)) out at (record { fits = true; at = at' }) out'
-  skip_puts e = rw (add-one i) (same_bytes_lem p (sym (append-nil (up_to f i)) ∙ ap (λ (l : List ℕ). up_to f i ++ l) (sym e)))
+    -- nothing is put at i
+    pub loop_skip : f i ≡ [] → Appends (up_to f (i + 1)) w (Some tt) w'
+    loop_skip e = rw (add-one i) (same-bytes (sym (append-nil (up_to f i)) ∙ ap (λ (l : List ℕ). up_to f i ++ l) (sym e)) p)
+
+pub ruleset loop_laws = (loop_begin, loop_next, loop_full)

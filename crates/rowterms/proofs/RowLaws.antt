@@ -1,6 +1,5 @@
 -- What the tables say of a row, and the bytes of a built one. Assumes nothing.
 use mathlib.Core.Path.{◌≡◌, refl, ap, ap₂, sym, subst, ◌∙◌}
-use mathlib.Core.Bool.{true, false}
 use mathlib.Core.List.{List, [], ◌∷◌, ◌++◌}
 use Prim.Native.Nat.{ℕ, suc, ◌+◌, ◌*◌, ◌≤◌, ◌<◌}
 use native.Mathlib.Omega.{arith}
@@ -17,9 +16,10 @@ use Rattle.tables.specs.Layout.{row_kind, row_parts, row_table, row_value, row_v
 use Rattle.tables.proofs.Lookups.{arity-at, first-at, flat-at, offset_inside, offset_of, row-kind-at, row-part-at, row-type-at, row-value-at, row-variant-at}
 use Rattle.encoding.specs.Encoding.{encoded}
 use Rattle.heldparts.specs.Held.{HoldsRows, HoldsTypes}
-use Rattle.bytebuffer.specs.declared.End.{End}
-use Rattle.bytebuffer.specs.Puts.{Puts}
-use Rattle.bytebuffer.proofs.PutLaws.{and_then, same_bytes_lem, still_full}
+use Rattle.std.specs.Prelude.{Option, Some, None}
+use Rattle.bytebuffer.specs.declared.Writer.{Writer}
+use Rattle.bytebuffer.specs.Appends.{Appends}
+use Rattle.bytebuffer.proofs.PutLaws.{and_then, same-bytes, still_full}
 use Rattle.rowterms.specs.Rows.{BuiltRow, PartCount, PartsInside, PutsRow, SomeRows, part_bytes, row_bytes, up_to}
 use Rattle.rowterms.proofs.ByteLaws.{parts-bytes, three-bytes}
 
@@ -141,14 +141,15 @@ module _ {types : TypeTable} {rows : RowTable} {r : ℕ} (b : BuiltRow types row
   pub built-place : get_or types.first (get_or rows.types r 0) 0 + get_or rows.variants r 0 < 48
   built-place = place-small b.some.holds-types held b.built
 
-  pub built-parts : (n : ℕ) → PartCount types rows r n → PartsInside rows r n
-  built-parts n q = parts-inside b.some.holds-types held b.built n (q.is b.some.ts b.some.rs b.some.holds-types b.some.holds_rows)
+  pub built-parts : {n : ℕ} → PartCount types rows r n → PartsInside rows r n
+  built-parts {n} q = parts-inside b.some.holds-types held b.built n (q.is b.some.ts b.some.rs b.some.holds-types b.some.holds_rows)
 
-  module _ {names out : List ℕ} {at : ℕ} {end : End} {out' : List ℕ} (p : Puts (2 ∷ get_or rows.types r 0 ∷ get_or rows.variants r 0 ∷ []) out at end out') where
-    pub built_full : end.fits ≡ false → PutsRow types rows names r out at end out'
-    built_full e =
-        record { puts = λ ts rs t h. same_bytes_lem (still_full p e (up_to (part_bytes names rows r) (length (row_parts (row_at rs r))))) (built-bytes t (entry t h r b.inside) b.built names (length (row_parts (row_at rs r))) refl) }
+  module _ {names : List ℕ} {w w' : Writer} where
+    pub built_full : Appends (2 ∷ get_or rows.types r 0 ∷ get_or rows.variants r 0 ∷ []) w None w' → PutsRow types rows names r w None w'
+    built_full p =
+        record { puts = λ ts rs t h. let n = length (row_parts (row_at rs r)) in same-bytes (built-bytes t (entry t h r b.inside) b.built names n refl) (still_full (up_to (part_bytes names rows r) n) p) }
 
-    pub built_put : end.fits ≡ true → (n : ℕ) → PartCount types rows r n → {end' : End} {out'' : List ℕ} → Puts (up_to (part_bytes names rows r) n) out' end.at end' out''
-        → PutsRow types rows names r out at end' out''
-    built_put e n q w = record { puts = λ ts rs t h. same_bytes_lem (and_then p e w) (built-bytes t (entry t h r b.inside) b.built names n (q.is ts rs t h)) }
+    pub built_put : Appends (2 ∷ get_or rows.types r 0 ∷ get_or rows.variants r 0 ∷ []) w (Some tt) w' → {n : ℕ} → PartCount types rows r n → {result : Option (Unit {0})} {w'' : Writer} → Appends (up_to (part_bytes names rows r) n) w' result w'' → PutsRow types rows names r w result w''
+    built_put p {n} q v = record { puts = λ ts rs t h. same-bytes (built-bytes t (entry t h r b.inside) b.built names n (q.is ts rs t h)) (and_then p v) }
+
+pub ruleset built_laws = (built-sort, built-place, built-parts, built_full, built_put)

@@ -1,5 +1,5 @@
 -- One row of a table as bytes, with the terms that it names renumbered. Assumes nothing: definitions.
-use Rattle.std.specs.Prelude.{◌≡◌, List, [], ◌++◌, ℕ, zero, suc, ◌+◌, ◌*◌, ◌≤◌, ◌<◌, length, get_or}
+use Rattle.std.specs.Prelude.{◌≡◌, Option, List, [], ◌++◌, ℕ, zero, suc, ◌+◌, ◌*◌, ◌≤◌, ◌<◌, length, get_or}
 use Rattle.laws.specs.Lists.{concat_map}
 use Rattle.guard.specs.Guard.{Row, row_at}
 use Rattle.guard.specs.Types.{Types}
@@ -10,8 +10,8 @@ use Rattle.serialize.specs.Tokens.{row_tokens, token_bytes}
 use Rattle.encoding.specs.Encoding.{encoded}
 use Rattle.heldparts.specs.Held.{HoldsRows, HoldsTypes}
 use Rattle.merged.specs.Merge.{named, renamed_row}
-use Rattle.bytebuffer.specs.declared.End.{End}
-use Rattle.bytebuffer.specs.Puts.{Puts}
+use Rattle.bytebuffer.specs.declared.Writer.{Writer}
+use Rattle.bytebuffer.specs.Appends.{Appends}
 
 -- what f gives at each number below n, one after the other
 abbrev pub up_to : (ℕ → List ℕ) → ℕ → List ℕ
@@ -52,5 +52,5 @@ pub record PartCount (types : TypeTable) (rows : RowTable) (r many : ℕ) : Type
   pub is : (ts : Types) (rs : List Row) → HoldsTypes types ts → HoldsRows rows ts rs → many ≡ length (row_parts (row_at rs r))
 
 -- the bytes of row r
-pub record PutsRow (types : TypeTable) (rows : RowTable) (names : List ℕ) (r : ℕ) (out : List ℕ) (at : ℕ) (end : End) (out' : List ℕ) : Type 0 where
-  pub puts : (ts : Types) (rs : List Row) → HoldsTypes types ts → HoldsRows rows ts rs → Puts (row_bytes names (row_at rs r)) out at end out'
+pub record PutsRow (types : TypeTable) (rows : RowTable) (names : List ℕ) (r : ℕ) (w : Writer) (result : Option (Unit {0})) (w' : Writer) : Type 0 where
+  pub puts : (ts : Types) (rs : List Row) → HoldsTypes types ts → HoldsRows rows ts rs → Appends (row_bytes names (row_at rs r)) w result w'

@@ -21,8 +21,8 @@ abbrev pub bytes_at : List ℕ → List ℕ → List Row → ℕ → List ℕ
 bytes_at names skipped rs i = unless (get_or skipped i 0) (row_bytes names (row_at rs i))
 
 module _ (names skipped : List ℕ) (rs : List Row) (i : ℕ) where
-  pub put_at_lem : get_or skipped i 0 ≡ 0 → row_bytes names (row_at rs i) ≡ bytes_at names skipped rs i
-  put_at_lem e = ap (λ (s : ℕ). unless s (row_bytes names (row_at rs i))) (sym e)
+  pub put_at : get_or skipped i 0 ≡ 0 → row_bytes names (row_at rs i) ≡ bytes_at names skipped rs i
+  put_at e = ap (λ (s : ℕ). unless s (row_bytes names (row_at rs i))) (sym e)
 
   pub skipped_at : ¬ (get_or skipped i 0 ≡ 0) → bytes_at names skipped rs i ≡ []
   skipped_at h = go (get_or skipped i 0) h

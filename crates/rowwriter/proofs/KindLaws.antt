@@ -1,6 +1,5 @@
 -- The bytes of a variable, a constant and a field read, by what the tables say of them. Assumes nothing.
 use mathlib.Core.Path.{◌≡◌, refl, ap, ap₂, sym, subst, ◌∙◌}
-use mathlib.Core.Bool.{true, false}
 use mathlib.Core.List.{List, [], ◌∷◌, ◌++◌, append-nil}
 use Prim.Native.Nat.{ℕ, ◌+◌, ◌*◌, ◌<◌}
 use native.Mathlib.Omega.{arith}
@@ -15,9 +14,10 @@ use Rattle.tables.specs.declared.TypeTable.{TypeTable}
 use Rattle.tables.specs.Layout.{row_kind, row_parts, row_value, row_variant}
 use Rattle.encoding.specs.Encoding.{encoded, encoded_of, encoded_value}
 use Rattle.heldparts.specs.Held.{HoldsTypes}
-use Rattle.bytebuffer.specs.declared.End.{End}
-use Rattle.bytebuffer.specs.Puts.{Puts}
-use Rattle.bytebuffer.proofs.PutLaws.{and_then, same_bytes_lem, still_full}
+use Rattle.std.specs.Prelude.{Option, Some, None}
+use Rattle.bytebuffer.specs.declared.Writer.{Writer}
+use Rattle.bytebuffer.specs.Appends.{Appends}
+use Rattle.bytebuffer.proofs.PutLaws.{and_then, same-bytes, still_full}
 use Rattle.rowterms.specs.Rows.{row_bytes}
 use Rattle.rowterms.proofs.ByteLaws.{two_bytes}
 use Rattle.rowterms.proofs.RowLaws.{Entry, few-fields}
@@ -29,12 +29,12 @@ module _ (t : ℕ) (x : ℤ) (small : t < 128) where
   unfolding encoded_value
   value-last = two_bytes 1 t (omega arith) small (encoded_of width64 (fold_signed x)) ∙ ap (λ (l : List ℕ). encoded 1 ++ (encoded t ++ l)) (sym (append-nil (encoded_of width64 (fold_signed x))))
 
-  module _ {out out' : List ℕ} {at : ℕ} {end : End} (p : Puts (1 ∷ t ∷ []) out at end out') where
-    pub constant_full : end.fits ≡ false → Puts (row_bytes [] (constant t x)) out at end out'
-    constant_full e = same_bytes_lem (still_full p e (encoded_of width64 (fold_signed x))) value-last
+  module _ {w w' : Writer} where
+    pub constant_full : Appends (1 ∷ t ∷ []) w None w' → Appends (row_bytes [] (constant t x)) w None w'
+    constant_full p = same-bytes value-last (still_full (encoded_of width64 (fold_signed x)) p)
 
-    pub constant_put : end.fits ≡ true → (n : ℕ) → n ≡ fold_signed x → {end' : End} {out'' : List ℕ} → Puts (encoded_of width64 n) out' end.at end' out'' → Puts (row_bytes [] (constant t x)) out at end' out''
-    constant_put e n q w = same_bytes_lem (and_then p e w) (ap (λ (k : ℕ). (1 ∷ t ∷ []) ++ encoded_of width64 k) q ∙ value-last)
+    pub constant_put : Appends (1 ∷ t ∷ []) w (Some tt) w' → (n : ℕ) → n ≡ fold_signed x → {r : Option (Unit {0})} {w'' : Writer} → Appends (encoded_of width64 n) w' r w'' → Appends (row_bytes [] (constant t x)) w r w''
+    constant_put p n e q = same-bytes (ap (λ (k : ℕ). (1 ∷ t ∷ []) ++ encoded_of width64 k) e ∙ value-last) (and_then p q)
 
 -- ---- by kind
 
@@ -107,6 +107,6 @@ module _ {types : TypeTable} {rows : RowTable} {ts : Types} {rs : List Row} (t :
         ap₂ (λ (a v : ℕ). row_bytes names (field 0 a v (get_or rows.parts (3 * r + 1) 0))) term_is x.variant
         ∙ ap (λ (p : ℕ). row_bytes names (field 0 (get_or (row_parts row) 0 0) (row_variant row) p)) (x.part 1 (omega arith)) ∙ ap (row_bytes names) (sym field_is.1)
 
-    pub field_puts : (names : List ℕ) {out : List ℕ} {at : ℕ} {end : End} {out' : List ℕ}
-        → Puts (row_bytes names (field 0 (get_or rows.parts (3 * r) 0) (get_or rows.variants r 0) (get_or rows.parts (3 * r + 1) 0))) out at end out' → Puts (row_bytes names (row_at rs r)) out at end out'
-    field_puts names p = same_bytes_lem p (field-bytes names)
+    pub field_puts : (names : List ℕ) {w w' : Writer} {result : Option (Unit {0})}
+        → Appends (row_bytes names (field 0 (get_or rows.parts (3 * r) 0) (get_or rows.variants r 0) (get_or rows.parts (3 * r + 1) 0))) w result w' → Appends (row_bytes names (row_at rs r)) w result w'
+    field_puts names p = same-bytes (field-bytes names) p

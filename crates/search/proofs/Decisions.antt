@@ -1,15 +1,11 @@
 -- The decision that code takes: it is the chosen one, its children begin with it, and at both the falling number is lower.
 -- Assumes nothing.
-use mathlib.Core.Path.{◌≡◌, refl, ap, sym, ◌∙◌, ap₂}
+use mathlib.Core.Path.{◌≡◌, ap, sym, ◌∙◌, ap₂}
 use mathlib.Core.List.{List}
 use mathlib.Core.Option.{some}
-use Prim.Native.Nat.{ℕ, ◌-◌, ◌^◌, ◌≤◌, ◌<◌}
+use Prim.Native.Nat.{ℕ, ◌-◌, ◌^◌, ◌<◌}
 use native.Mathlib.Omega.{arith}
-use lib.Dec.{leb}
 use lib.ListN.{get_or, length}
-use borrow.Author.Tests.{leb-true}
-use Rattle.laws.specs.Lists.{from}
-use Rattle.laws.proofs.Lists.{all_true_inv, mem_from}
 use Rattle.guard.specs.Closure.{Fact.within, State, add, class_of, every_variant}
 use Rattle.guard.specs.Limits.{variant_limit}
 use Rattle.guard.specs.Node.{Split}
@@ -29,10 +25,6 @@ pub state_fit : (s : State) → Held s.classes → length s.labels ≡ 96 → ((
 unfolding Small
 state_fit s held long small = record { held = held; long = long; small = small }
 
--- one bit of 16
-pub bit-most : (v : ℕ) → v < variant_limit → 2 ^ v ≤ 65535
-bit-most v h = leb-true _ _ (all_true_inv (λ u. leb (2 ^ u) 65535) (from 16 0) refl v (mem_from 16 0 v (omega arith) (omega arith)))
-
 module _ (reads sorts fieldless : List ℕ) (fit : ReadsFit reads) (s : State) (c : Choice) (e : Some c ≡ choice_of (first_by reads s) (split_by reads sorts fieldless s)) where
   pub decision : Split
   decision = (a_choice c (first_by reads s) (split_by reads sorts fieldless s) e).0
@@ -41,11 +33,11 @@ module _ (reads sorts fieldless : List ℕ) (fit : ReadsFit reads) (s : State) (
   unfolding decision
   is-decided = (a_choice c (first_by reads s) (split_by reads sorts fieldless s) e).1
 
-  same-term : c.term ≡ decision.term
+  pub same-term : c.term ≡ decision.term
   unfolding decision
   same-term = (a_choice c (first_by reads s) (split_by reads sorts fieldless s) e).2
 
-  same_variant : c.variant ≡ decision.variant
+  pub same_variant : c.variant ≡ decision.variant
   unfolding decision
   same_variant = (a_choice c (first_by reads s) (split_by reads sorts fieldless s) e).3
 

@@ -90,13 +90,13 @@ module _ (g : Guard) (w : WellFormed base g) where
       lengths a b c d = omega (arith, length-append a (b ++ (c ++ d)), length-append b (c ++ d), length-append c d)
 
 module _ (bytes : List ℕ) where
-  stored_bytes_lem : (g : Guard) (rest : List ℕ) → file base bytes ≡ accepted g rest → length (stored_bytes g) ≤ 585
-  stored_bytes_lem g rest e =
+  stored-short : (g : Guard) (rest : List ℕ) → file base bytes ≡ accepted g rest → length (stored_bytes g) ≤ 585
+  stored-short g rest e =
       let w = accepted_well_formed base base-supported bytes g rest e in
       omega (arith, same_length g w, at-most_585 (bytes_of g) g [] (well_formed-file base base-supported g w (accepted-total base base-supported bytes g rest e)))
 
   pub few-stored : (n k : ℕ) → answer_by stored_bytes (file base bytes) n ≡ Ok k → k ≤ 585
-  few-stored n k told = let w = wrote stored_bytes (file base bytes) n k told in omega (arith, w.many, stored_bytes_lem w.value w.rest w.is)
+  few-stored n k told = let w = wrote stored_bytes (file base bytes) n k told in omega (arith, w.many, stored-short w.value w.rest w.is)
 
   pub never_short : (n : ℕ) (g : Guard) (rest : List ℕ) → file base bytes ≡ accepted g rest → 585 ≤ n → answer_by stored_bytes (file base bytes) n ≡ Ok (length (stored_bytes g))
-  never_short n g rest e h = room-told stored_bytes e n (omega (arith, stored_bytes_lem g rest e))
+  never_short n g rest e h = room-told stored_bytes e n (omega (arith, stored-short g rest e))

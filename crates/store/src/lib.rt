@@ -18,10 +18,9 @@ pub fn store(bytes: &[u8], out: &mut [u8]) -> Result<usize, Question>
 {
     bytebuffer::clear(out);
     let t = reader::read(bytes, 6, 24, 32)?;
-    let end = columnwriter::put_stored(t, out);
-    if !end.fits {
+    let Some(end) = columnwriter::put_stored(&t, out) else {
         bytebuffer::clear(out);
         return Err(Question::FileTooLong);
-    }
-    Ok(end.at)
+    };
+    Ok(end)
 }

@@ -2,63 +2,49 @@
 // one byte.
 #![tactic(auto)]
 
-ghost use Rattle.std.specs.Prelude.{◌≤◌, length};
 ghost use Rattle.typewriter.specs.TypeBytes.{HasType, HasVariant, PutsType, PutsTypes, PutsVariant, SomeTypes};
 
-use bytebuffer::End;
+use bytebuffer::Writer;
 use tables::TypeTable;
 
 // How many fields a variant has, and their types. Variants are counted through all types.
-fn put_variant(types: TypeTable, variant: usize, out: &mut [u8], at: usize) -> End
-    requires has_variant { HasVariant types variant }
-    requires at_in_bounds { at ≤ length out.old }
-    ensures { PutsVariant types variant out.old at result out.new }
+#[tactic(auto, using(crate::proofs::TypeLaws::variant_laws))]
+fn put_variant(types: &TypeTable, variant: usize, out: &mut Writer) -> Option<()>
+    requires { HasVariant types.now variant }
+    ensures { PutsVariant types.now variant out.old result out.new }
 {
     let arity = types.arities[variant];
-    let fields = arity as usize;
-    let mut end = bytebuffer::put_one(out, at, arity);
-    for j in 0..fields {
-        if !end.fits {
-            return end;
-        }
-        let sort = types.sorts[3 * variant + j];
-        end = bytebuffer::put_one(out, end.at, sort);
+    out.put(&[arity])?;
+    for j in 0..arity as usize {
+        out.put(&[types.sorts[3 * variant + j]])?;
     }
-    end
+    Some(())
 }
 
 // How many variants a type has, and these.
-fn put_type(types: TypeTable, t: usize, out: &mut [u8], at: usize) -> End
-    requires has_type { HasType types t }
-    requires at_in_bounds { at ≤ length out.old }
-    ensures { PutsType types t out.old at result out.new }
+#[tactic(auto, using(crate::proofs::TypeLaws::type_laws))]
+fn put_type(types: &TypeTable, t: usize, out: &mut Writer) -> Option<()>
+    requires { HasType types.now t }
+    ensures { PutsType types.now t out.old result out.new }
 {
     let first = types.first[t] as usize;
     let count = types.variants[t];
-    let variants = count as usize;
-    let mut end = bytebuffer::put_one(out, at, count);
-    for v in 0..variants {
-        if !end.fits {
-            return end;
-        }
-        end = put_variant(types, first + v, out, end.at);
+    out.put(&[count])?;
+    for v in 0..count as usize {
+        put_variant(types, first + v, out)?;
     }
-    end
+    Some(())
 }
 
 // How many types there are, and these.
-pub fn put_types(types: TypeTable, out: &mut [u8], at: usize) -> End
-    requires some_types { SomeTypes types }
-    requires at_in_bounds { at ≤ length out.old }
-    ensures { PutsTypes types out.old at result out.new }
+#[tactic(auto, using(crate::proofs::TypeLaws::types_laws))]
+pub fn put_types(types: &TypeTable, out: &mut Writer) -> Option<()>
+    requires { SomeTypes types.now }
+    ensures { PutsTypes types.now out.old result out.new }
 {
-    let many = types.many;
-    let mut end = bytebuffer::put_one(out, at, many as u8);
-    for t in 0..many {
-        if !end.fits {
-            return end;
-        }
-        end = put_type(types, t, out, end.at);
+    out.put(&[types.many as u8])?;
+    for t in 0..types.many {
+        put_type(types, t, out)?;
     }
-    end
+    Some(())
 }

@@ -71,10 +71,10 @@ module _ {types : TypeTable} {rows : RowTable} {g : Guard} (l : Listed types row
 
   module _ (a : ¬ (get_or rows.kinds r 0 ≡ 0)) (b : ¬ (get_or rows.kinds r 0 ≡ 1)) (c : ¬ (get_or rows.kinds r 0 ≡ 3)) where
     is-built : IsBuilt g.types (row_at g.rows r)
-    is-built = built_otherwise g.types g.rows r row (l.well_formed_lem.rows r in_rows) (λ e. a (kind-is ∙ e)) (λ e. b (kind-is ∙ e)) (λ e. c (kind-is ∙ e))
+    is-built = built_otherwise g.types g.rows r row (l.well_formed.rows r in_rows) (λ e. a (kind-is ∙ e)) (λ e. b (kind-is ∙ e)) (λ e. c (kind-is ∙ e))
 
     pub sort-small : get_or rows.types r 0 < 6
-    sort-small = omega (arith, sort-is, is-built.type, l.well_formed_lem.type_count)
+    sort-small = omega (arith, sort-is, is-built.type, l.well_formed.type_count)
 
     abbrev place : ℕ
     place = get_or types.first (get_or rows.types r 0) 0 + get_or rows.variants r 0
@@ -95,7 +95,7 @@ module _ {types : TypeTable} {rows : RowTable} {g : Guard} (l : Listed types row
         ∙ arity-at g.types (type_at g.types g.rows r) (row_variant (row_at g.rows r)) is-built.variant
 
     pub arity-small : get_or types.arities place 0 ≤ 3
-    arity-small = omega (arith, arity-is, l.well_formed_lem.field_counts (type_at g.types g.rows r) (row_variant (row_at g.rows r)))
+    arity-small = omega (arith, arity-is, l.well_formed.field_counts (type_at g.types g.rows r) (row_variant (row_at g.rows r)))
 
     pub built-numbers : 3 + get_or types.arities place 0 ≡ length (row_tokens (row_at g.rows r))
     built-numbers = omega (arith, arity-is, is-built.numbers)

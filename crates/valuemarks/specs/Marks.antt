@@ -23,7 +23,7 @@ marks_of g = pad room (map mark_of (guard_tokens g))
 
 -- tables of a guard, whatever they say of the values
 pub record Listed (types : TypeTable) (rows : RowTable) (g : Guard) : Type 0 where
-  pub well_formed_lem : WellFormed base g
+  pub well_formed : WellFormed base g
   pub total : length (flat g.types) ≤ total_variant_limit
   pub short : length (guard_tokens g) ≤ room
   pub types_are : types ≡ type_table g.types

@@ -1,37 +1,59 @@
 -- `put_stored`: the types, then N and the columns, then the lines. Assumes nothing.
-use native.Mathlib.Omega.{arith}
-use borrow.Author.Tests.{not-false, not-true}
-use Rattle.bytebuffer.proofs.PutLaws.{ends-within}
+use Rattle.std.proofs.Common.{rules}
+use mathlib.Core.Path.{◌∙◌}
+use Rattle.std.specs.Prelude.{Some, None}
+use Rattle.bytebuffer.proofs.PutLaws.{from_start, full_from_start}
 use Rattle.mergewriter.proofs.Held.{types-held}
 use Rattle.mergewriter.proofs.ThreePuts.{all_put, first_full, second_full}
+use Rattle.columnwriter.specs.Entries.{PutsStored}
 use Rattle.columnwriter.proofs.PutLaws.{in_parts}
 use Rattle.columnwriter.proofs.put_stored.Goals as goal
 
-pub put_types-typed-requires : goal.put_types-typed-requires
-put_types-typed-requires c = record {
-  some_types = record { ts = _; held = types-held c.requires.is };
-  at_in_bounds = omega arith;
-}
+pub put_types-requires : goal.put_types-requires
+put_types-requires c = record { ts = _; held = types-held c.requires.is }
 
-pub returns-then-not-typed : goal.returns-then-not-typed
-returns-then-not-typed c = record { puts = λ g b. first_full (in_parts g) (c.put_types-typed.ensures.puts g.types (types-held b)) (not-true _ c.if-not-typed.true) }
+pub returns-in_err-put_types : goal.returns-in_err-put_types
+returns-in_err-put_types c = let a = c.args in
+    let new = c.new-writer.ensures in
+    let typed = c.in_err-put_types.ensures in
+    let k = c.requires in
+    let p : PutsStored a.t.now a.out.now None c.put_types.new.out.out.now =
+    record { puts = λ g b. full_from_start new.out new.at (first_full (in_parts g) (typed.puts g.types (types-held b))) } in
+    let same = (typed.puts k.g.types (types-held k.is)).same ∙ new.same in
+    rw c.from_residual.ensures (search (rules, p, same))
 
-pub put_rows-end-requires : goal.put_rows-end-requires
-put_rows-end-requires c = record {
-  some_guard = c.requires;
-  at_in_bounds = ends-within (c.put_types-typed.ensures.puts c.requires.g.types (types-held c.requires.is)) (not-false _ c.if-not-typed.false);
-}
+pub returns-in_err-put_rows : goal.returns-in_err-put_rows
+returns-in_err-put_rows c = let a = c.args in
+    let new = c.new-writer.ensures in
+    let typed = c.in_ok-put_types.ensures in
+    let rows = c.in_err-put_rows.ensures in
+    let k = c.requires in
+    let p : PutsStored a.t.now a.out.now None c.put_rows.new.out.out.now =
+    record { puts = λ g b. full_from_start new.out new.at (second_full (in_parts g) (typed.puts g.types (types-held b)) (rows.puts g b)) } in
+    let same = (rows.puts k.g k.is).same ∙ (typed.puts k.g.types (types-held k.is)).same ∙ new.same in
+    rw c.from_residual-in_err-put_rows.ensures (search (rules, p, same))
 
-pub returns-then-not-end : goal.returns-then-not-end
-returns-then-not-end c = record { puts = λ g b. second_full (in_parts g) (c.put_types-typed.ensures.puts g.types (types-held b)) (not-false _ c.if-not-typed.false) (c.put_rows-end.ensures.puts g b) (not-true _ c.if-not-end.true) }
-
-pub put_lines-requires : goal.put_lines-requires
-put_lines-requires c = record {
-  some_guard = c.requires;
-  at_in_bounds = ends-within (c.put_rows-end.ensures.puts c.requires.g c.requires.is) (not-false _ c.if-not-end.false);
-}
+pub returns-in_err-put_lines : goal.returns-in_err-put_lines
+returns-in_err-put_lines c = let a = c.args in
+    let new = c.new-writer.ensures in
+    let typed = c.in_ok-put_types.ensures in
+    let rows = c.in_ok-put_rows.ensures in
+    let lines = c.in_err-put_lines.ensures in
+    let k = c.requires in
+    let p : PutsStored a.t.now a.out.now None c.put_lines.new.out.out.now =
+    record { puts = λ g b. full_from_start new.out new.at (all_put (in_parts g) (typed.puts g.types (types-held b)) (rows.puts g b) (lines.puts g b)) } in
+    let same = (lines.puts k.g k.is).same ∙ (rows.puts k.g k.is).same ∙ (typed.puts k.g.types (types-held k.is)).same ∙ new.same in
+    rw c.from_residual-in_err-put_lines.ensures (search (rules, p, same))
 
 pub returns : goal.returns
-returns c = record {
-  puts = λ g b. all_put (in_parts g) (c.put_types-typed.ensures.puts g.types (types-held b)) (not-false _ c.if-not-typed.false) (c.put_rows-end.ensures.puts g b) (not-false _ c.if-not-end.false) (c.put_lines.ensures.puts g b);
-}
+returns c = let a = c.args in
+    let new = c.new-writer.ensures in
+    let typed = c.in_ok-put_types.ensures in
+    let rows = c.in_ok-put_rows.ensures in
+    let lines = c.in_ok-put_lines.ensures in
+    let k = c.requires in
+    let w = c.put_lines.new.out in
+    let p : PutsStored a.t.now a.out.now (Some w.at) w.out.now =
+    record { puts = λ g b. from_start new.out new.at (all_put (in_parts g) (typed.puts g.types (types-held b)) (rows.puts g b) (lines.puts g b)) } in
+    let same = (lines.puts k.g k.is).same ∙ (rows.puts k.g k.is).same ∙ (typed.puts k.g.types (types-held k.is)).same ∙ new.same in
+    search (rules, p, same)

@@ -1,6 +1,6 @@
 -- `write` meets its contract. Assumes nothing.
 use Rattle.std.proofs.Common.{refl, arith}
-use borrow.Author.Tests.{not-false, not-true}
+use Rattle.std.specs.Prelude.{Some, None}
 use Rattle.serialize.specs.Tokens.{bytes_of}
 use Rattle.filewriter.proofs.Answers.{answers-short, answers-written}
 use Rattle.filewriter.proofs.WriteLaws.{all-marked, file-puts, lines-few, list_length, listed-tables, rows_end}
@@ -20,19 +20,19 @@ mark_values-requires c = let list = c.args.list.now in
     let k = c.in_ok-t.ensures.reads_list in
     record { guard = k.guard; listed = listed-tables list k; ends = rows_end list k; blank = refl }
 
-pub put_numbers-end-requires : goal.put_numbers-end-requires
-put_numbers-end-requires c = record { tokens = _; marked = all-marked c.args.list.now c.in_ok-t.ensures.reads_list c.mark_values.ensures }
+pub put_numbers-requires : goal.put_numbers-requires
+put_numbers-requires c = record { tokens = _; marked = all-marked c.args.list.now c.in_ok-t.ensures.reads_list c.mark_values.ensures }
 
-pub returns-then-not-end : goal.returns-then-not-end
-returns-then-not-end c = let list = c.args.list.now in
+pub returns-in_default : goal.returns-in_default
+returns-in_default c = let list = c.args.list.now in
     let k = c.in_ok-t.ensures.reads_list in
-    let w = file-puts list k (c.put_numbers-end.ensures.puts _ (all-marked list k c.mark_values.ensures)) in
-    let a = answers-short bytes_of k.is c.args.out.now c.clear.ensures w (not-true _ c.if-not-end.true) c.clear-then-not-end.ensures in
+    let w = file-puts list k _ None _ (c.in_default.ensures.puts _ (all-marked list k c.mark_values.ensures)) in
+    let a = answers-short bytes_of k.is c.args.out.now c.clear.ensures w c.clear-in_default.ensures in
     record { value = a.0; not_malformed = λ e. omega arith; out_after = a.1 }
 
 pub returns : goal.returns
 returns c = let list = c.args.list.now in
     let k = c.in_ok-t.ensures.reads_list in
-    let w = file-puts list k (c.put_numbers-end.ensures.puts _ (all-marked list k c.mark_values.ensures)) in
-    let a = answers-written bytes_of k.is c.args.out.now c.clear.ensures w (not-false _ c.if-not-end.false) in
+    let w = file-puts list k _ (Some c.in-Some.end) _ (c.in-Some.ensures.puts _ (all-marked list k c.mark_values.ensures)) in
+    let a = answers-written bytes_of k.is c.args.out.now c.clear.ensures w in
     record { value = a.0; not_malformed = tt; out_after = a.1 }

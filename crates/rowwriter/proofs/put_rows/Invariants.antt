@@ -1,6 +1,6 @@
--- `put_rows`: the rows before r stand in the buffer, where they aren't skipped. Assumes nothing.
+-- `put_rows`: the rows before r are put, where they aren't skipped. Assumes nothing.
 use Rattle.rowwriter.proofs.Midway.{Midway}
 use Rattle.rowwriter.proofs.put_rows.Given as goal
 
 abbrev pub invariant-loop-r : goal.invariant-loop-r
-invariant-loop-r l = Midway l.types l.rows l.names l.skipped l.initial.out l.at l.r l.next l.out
+invariant-loop-r l = Midway l.types l.rows l.names l.skipped l.initial.out l.r l.out

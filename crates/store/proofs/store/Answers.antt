@@ -1,6 +1,5 @@
 -- `store`: the file is read, and its guard put by column. Assumes nothing.
 use lib.ListN.{length}
-use borrow.Author.Tests.{not-false, not-true}
 use Rattle.std.proofs.lemmas.Result.{err_from_is_err_and}
 use Rattle.guard.specs.Limits.{base}
 use Rattle.guard.specs.Question.{number_of}
@@ -17,15 +16,15 @@ returns-in_err-t c = let p = err_from_is_err_and c.from_residual.result c.from_r
     let a = answers-refused stored_bytes q (refused-file base c.args.bytes.now (number_of q) c.in_err-t.ensures) (length c.args.out.now) c.clear.ensures in
     rw (p.1, p.2) (record { value = a.0; out_after = a.1 })
 
-pub put_stored-end-requires : goal.put_stored-end-requires
-put_stored-end-requires c = record { g = _; is = (opened c.args.bytes.now c.in_ok-t.t c.in_ok-t.ensures).tables }
+pub put_stored-requires : goal.put_stored-requires
+put_stored-requires c = record { g = _; is = (opened c.args.bytes.now c.in_ok-t.t c.in_ok-t.ensures).tables }
 
-pub returns-then-not-end : goal.returns-then-not-end
-returns-then-not-end c = let k = opened c.args.bytes.now c.in_ok-t.t c.in_ok-t.ensures in
-    let a = answers-short stored_bytes k.is c.args.out.now c.clear.ensures (c.put_stored-end.ensures.puts k.guard k.tables) (not-true _ c.if-not-end.true) c.clear-then-not-end.ensures in
+pub returns-in_default : goal.returns-in_default
+returns-in_default c = let k = opened c.args.bytes.now c.in_ok-t.t c.in_ok-t.ensures in
+    let a = answers-short stored_bytes k.is c.args.out.now c.clear.ensures (c.in_default.ensures.puts k.guard k.tables) c.clear-in_default.ensures in
     record { value = a.0; out_after = a.1 }
 
 pub returns : goal.returns
 returns c = let k = opened c.args.bytes.now c.in_ok-t.t c.in_ok-t.ensures in
-    let a = answers-written stored_bytes k.is c.args.out.now c.clear.ensures (c.put_stored-end.ensures.puts k.guard k.tables) (not-false _ c.if-not-end.false) in
+    let a = answers-written stored_bytes k.is c.args.out.now c.clear.ensures (c.in-Some.ensures.puts k.guard k.tables) in
     record { value = a.0; out_after = a.1 }

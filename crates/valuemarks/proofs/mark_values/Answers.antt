@@ -13,7 +13,7 @@ use Rattle.valuemarks.proofs.Midway.{Midway, begin, finish, next-plain, next-val
 use Rattle.valuemarks.proofs.RowLaws.{kind-is}
 use Rattle.valuemarks.proofs.mark_values.Invariants.{AllMidway}
 use Rattle.valuemarks.proofs.mark_values.Goals as goal
-use Rattle.valuemarks.proofs.mark_values.Goals.{Joined-rows-r-eq1, then-rows-r-eq1, else-rows-r-eq1}
+use Rattle.valuemarks.proofs.mark_values.Goals.{then-rows-r-eq1, else-rows-r-eq1}
 
 -- ---- one row
 
@@ -39,13 +39,13 @@ module _ {types : TypeTable} {rows : RowTable} {end at r : ℕ} {marks : List �
 pub loop-r-init : goal.loop-r-init
 loop-r-init c = λ g l e. subst (λ (k : ℕ). Midway g c.args.end k c.args.marks.now) (sym l.many) (begin g l.short c.args.end c.args.marks.now e c.requires.blank)
 
--- by which way the loop went on
-came-by : (c : Joined-rows-r-eq1) → ((get_or c.args.rows.kinds (c.loop-r.r - 1) 0 ≡ 1) × (c.if-rows-r-eq1.marks ≡ set c.loop-r.marks (c.loop-r.at - 1) 1))
-    ⊎ ((¬ (get_or c.args.rows.kinds (c.loop-r.r - 1) 0 ≡ 1)) × (c.if-rows-r-eq1.marks ≡ c.loop-r.marks))
-came-by c = elim c.if-rows-r-eq1.branch [ then-rows-r-eq1 w ↦ inl (w.if-rows-r-eq1.true, w.marks-is) | else-rows-r-eq1 w ↦ inr (w.if-rows-r-eq1.false, w.marks-is) ]
-
 pub loop-r-preserved : goal.loop-r-preserved
-loop-r-preserved c = next (omega arith) (omega arith) c.loop-r.invariant c.row_numbers-at.result c.row_numbers-at.ensures c.if-rows-r-eq1.marks (came-by c.before)
+loop-r-preserved c = let l = c.loop-r in
+    let n = c.row_numbers-at in
+    elim c.if-rows-r-eq1.branch [
+      | then-rows-r-eq1 w ↦ next (omega arith) (omega arith) l.invariant n.result n.ensures c.if-rows-r-eq1.marks (inl (w.if-rows-r-eq1.true, w.marks-is))
+      | else-rows-r-eq1 w ↦ next (omega arith) (omega arith) l.invariant n.result n.ensures c.if-rows-r-eq1.marks (inr (w.if-rows-r-eq1.false, w.marks-is))
+    ]
 
 pub returns : goal.returns
 returns c = record { are = λ g l e. finish g l.short c.loop-r.at c.loop-r.marks (subst (λ (k : ℕ). Midway g c.loop-r.at k c.loop-r.marks) (let q : c.loop-r.r ≡ 0 = omega arith in q) (c.loop-r.invariant g l e)) }
