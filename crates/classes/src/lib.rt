@@ -110,6 +110,14 @@ impl State {
         self.labels[self.classes[x as usize] as usize]
     }
 
+    // The label that stands at a class.
+    pub fn class_label(&self, c: u8) -> u16
+        requires { c < 96 }
+        ensures { result ≡ get_or self.now.labels c 0 }
+    {
+        self.labels[c as usize]
+    }
+
     // Two terms become equal; true if they were not.
     #[tactic(auto, using(crate::proofs::ClassLaws::same_new, crate::proofs::ClassLaws::same_already, crate::proofs::ClassLaws::same_fails, crate::proofs::ClassLaws::same_holds))]
     pub fn unite(&mut self, x: u8, y: u8) -> bool

@@ -1,7 +1,7 @@
 -- A class that something fixes is drawn: a shape over the rows of its parts, which have lower ranks and so are there, a
 -- constant, or one fieldless variant. Assumes nothing.
 use mathlib.Core.Path.{◌≡◌, refl, ap, sym, ◌∙◌, subst}
-use mathlib.Core.Bool.{Bool, true, false, cond, false≢true}
+use mathlib.Core.Bool.{Bool, true, cond, false≢true}
 use mathlib.Core.List.{List, [], ◌∷◌, map}
 use Prim.Native.Nat.{ℕ, zero, suc, ◌+◌, ◌*◌, ◌-◌, ◌/◌, ◌%◌, ◌≤◌, ◌<◌}
 use native.Mathlib.Omega.{arith}
@@ -17,7 +17,11 @@ use Rattle.guard.specs.Closure.{State, label_of}
 use Rattle.guard.specs.Message.{Message, Message.made, Message.number, Parts.nil, no_message, to_parts}
 use Rattle.guard.specs.Shown.{decode, is_below, message_type, natural}
 use Rattle.guard.specs.Types.{Types, fields_of, is_number, variants_of}
-use Rattle.loops.specs.Lowest.{lowest}
+use Rattle.std.specs.Option.{unwrap_or}
+use Rattle.std.specs.declared.option.Option.{Option}
+use Rattle.loops.specs.Lowest.{Finds, lowest}
+use Rattle.unlikeconstants.specs.Unlike.{is_constant_of}
+use Rattle.plans.proofs.CodeTests.{found_or}
 use Rattle.arrays.specs.Slots.{kind_at, many_at, part_at, sort_at}
 use Rattle.constants.specs.Constants.{constant_value}
 use Rattle.splits.specs.Choice.{lowest_in}
@@ -28,7 +32,7 @@ use Rattle.drawnrows.proofs.RowLaws.{drew_over}
 use Rattle.plans.specs.Chosen.{free_at, is_marked}
 use Rattle.plans.specs.Plans.{OpenState, is_free, marked, state_of}
 use Rattle.leaf.specs.declared.Leaf.{Leaf}
-use Rattle.leaf.specs.Leaf.{LeafFits, open_state}
+use Rattle.leaf.specs.Leaf.{open_state}
 use Rattle.leaf.specs.Picture.{ConstantIs, SingleIs, part_class}
 use Rattle.leaf.specs.Sheet.{HasRow}
 use Rattle.classrow.specs.ClassRow.{AtLow, ConstantDrawn, FixedDrawn, ShapeDrawn, SingleDrawn, part_row}
@@ -71,8 +75,8 @@ abbrev pub part_list : List ℕ → List ℕ → List ℕ → ℕ → List ℕ
 part_list shapes classes at k = part_row shapes classes at k 0 ∷ part_row shapes classes at k 1 ∷ part_row shapes classes at k 2 ∷ []
 
 module _ (shapes classes at : List ℕ) (k : ℕ) where
-  pub three-parts : {a b c : ℕ} → a ≡ part_row shapes classes at k 0 → b ≡ part_row shapes classes at k 1 → c ≡ part_row shapes classes at k 2 → a ∷ b ∷ c ∷ [] ≡ part_list shapes classes at k
-  three-parts p q r = cc
+  pub three_parts : {a b c : ℕ} → a ≡ part_row shapes classes at k 0 → b ≡ part_row shapes classes at k 1 → c ≡ part_row shapes classes at k 2 → a ∷ b ∷ c ∷ [] ≡ part_list shapes classes at k
+  three_parts p q r = cc
 
   part-at : (q : ℕ) → q < 3 → get_or (part_list shapes classes at k) q 0 ≡ part_row shapes classes at k q
   part-at zero h = refl
@@ -88,8 +92,8 @@ module _ (shapes classes at : List ℕ) (k : ℕ) where
   unfolding part_row
   part_missing p h = ap (λ (b : Bool). cond b (get_or at (get_or classes (part_at shapes k p) 0) 0 - 1) 0) (le-ltb p _ h)
 
-  pub part-there : (p x : ℕ) → p < many_at shapes k → x ≡ get_or at (get_or classes (part_at shapes k p) 0) 0 - 1 → x ≡ part_row shapes classes at k p
-  part-there p x h e = e ∙ sym (part-here p h)
+  pub part_there : (p x : ℕ) → p < many_at shapes k → x ≡ get_or at (get_or classes (part_at shapes k p) 0) 0 - 1 → x ≡ part_row shapes classes at k p
+  part_there p x h e = e ∙ sym (part-here p h)
 
   pub part_low : AtLow at → (p : ℕ) → part_row shapes classes at k p < 4096
   part_low low p =
@@ -105,13 +109,13 @@ module _ (shapes classes at : List ℕ) (k : ℕ) where
   pub parts_low : AtLow at → LowRows (part_list shapes classes at k)
   parts_low low = (refl, all-low low)
 
-module _ (leaf : Leaf) (at : List ℕ) (k : ℕ) (fits : LeafFits leaf) (inside : k < 30) (rows : List ℤ) (many r : ℕ) (rows' : List ℤ) (many' : ℕ) (long : 4 * many + 4 ≤ length rows) (kind : ℕ) (is_kind : kind ≡ kind_at leaf.shapes k - 1)
-    (found : r ≡ row_found rows 0 many (made_row (kind / 16) (kind % 16) (map pos (part_list leaf.shapes leaf.classes at k)))) (with_it : rows' ≡ with_row rows many r (made_row (kind / 16) (kind % 16) (map pos (part_list leaf.shapes leaf.classes at k))))
+module _ (leaf : Leaf) (at : List ℕ) (k : ℕ) (inside : k < 30) (rows : List ℤ) (many r : ℕ) (rows' : List ℤ) (many' : ℕ) (long : 4 * many + 4 ≤ length rows) (kind : ℕ) (is_kind : kind ≡ kind_at leaf.shapes.slots k - 1)
+    (found : r ≡ row_found rows 0 many (made_row (kind / 16) (kind % 16) (map pos (part_list leaf.shapes.slots leaf.state.classes at k)))) (with_it : rows' ≡ with_row rows many r (made_row (kind / 16) (kind % 16) (map pos (part_list leaf.shapes.slots leaf.state.classes at k))))
     (now : many' ≡ many_after many r) where
-  pub shape-drawn : ShapeDrawn leaf at rows many k rows' many' r
-  shape-drawn ts val drawn c shape sheet lower =
+  pub shape_drawn : ShapeDrawn leaf at rows many k rows' many' r
+  shape_drawn ts val drawn c shape sheet lower =
       subst (λ (m : Message). Drew ts rows many drawn 1 m rows' many' drawn r) (sym value)
-      (made-drew ts rows many drawn sheet.store long shape.type shape.variant (part_list leaf.shapes leaf.classes at k) f parts r rows' many'
+      (made-drew ts rows many drawn sheet.store long shape.type shape.variant (part_list leaf.shapes.slots leaf.state.classes at k) f parts r rows' many'
       (found ∙ ap (row_found rows 0 many) same) (with_it ∙ ap (with_row rows many r) same) now)
     where
       f : ℕ → Message
@@ -120,38 +124,38 @@ module _ (leaf : Leaf) (at : List ℕ) (k : ℕ) (fits : LeafFits leaf) (inside 
       split : (kind ≡ 16 * shape.type + shape.variant)
       split = omega (arith, is_kind, shape.kind)
 
-      same : made_row (kind / 16) (kind % 16) (map pos (part_list leaf.shapes leaf.classes at k)) ≡ made_row shape.type shape.variant (map pos (part_list leaf.shapes leaf.classes at k))
+      same : made_row (kind / 16) (kind % 16) (map pos (part_list leaf.shapes.slots leaf.state.classes at k)) ≡ made_row shape.type shape.variant (map pos (part_list leaf.shapes.slots leaf.state.classes at k))
       same =
           let t : kind / 16 ≡ shape.type = omega (arith, split, shape.small) in
           let v : kind % 16 ≡ shape.variant = omega (arith, split, shape.small) in
-          ap (λ (u : ℕ). made_row u (kind % 16) (map pos (part_list leaf.shapes leaf.classes at k))) t ∙ ap (λ (u : ℕ). made_row shape.type u (map pos (part_list leaf.shapes leaf.classes at k))) v
+          ap (λ (u : ℕ). made_row u (kind % 16) (map pos (part_list leaf.shapes.slots leaf.state.classes at k))) t ∙ ap (λ (u : ℕ). made_row shape.type u (map pos (part_list leaf.shapes.slots leaf.state.classes at k))) v
 
       three : length (fields_of ts shape.type shape.variant) ≤ 3
-      three = omega (arith, shape.many, fits.shapes_fit.many k inside)
+      three = omega (arith, shape.many, leaf.shapes.fit.many k inside)
 
       -- the row of a part's class
-      row_of : (p : ℕ) → p < many_at leaf.shapes k → HasRow at (part_class (open_state ts leaf) val k p)
+      row_of : (p : ℕ) → p < many_at leaf.shapes.slots k → HasRow at (part_class (open_state ts leaf) val k p)
       row_of p h = lower (part_class (open_state ts leaf) val k p) (shape.parts p h) (shape.falls p h)
 
-      is_row : (q : ℕ) → (h : q < many_at leaf.shapes k) → get_or (part_list leaf.shapes leaf.classes at k) q 0 ≡ (row_of q h).0
-      is_row q h = part-at leaf.shapes leaf.classes at k q (omega (arith, h, fits.shapes_fit.many k inside)) ∙ part-here leaf.shapes leaf.classes at k q h ∙ ap (λ (n : ℕ). n - 1) (row_of q h).1 ∙ less_one (row_of q h).0
+      is_row : (q : ℕ) → (h : q < many_at leaf.shapes.slots k) → get_or (part_list leaf.shapes.slots leaf.state.classes at k) q 0 ≡ (row_of q h).0
+      is_row q h = part-at leaf.shapes.slots leaf.state.classes at k q (omega (arith, h, leaf.shapes.fit.many k inside)) ∙ part-here leaf.shapes.slots leaf.state.classes at k q h ∙ ap (λ (n : ℕ). n - 1) (row_of q h).1 ∙ less_one (row_of q h).0
         where
           less_one : (n : ℕ) → suc n - 1 ≡ n
           less_one n = omega arith
 
-      counted : (q : ℕ) → q < length (fields_of ts shape.type shape.variant) → q < many_at leaf.shapes k
+      counted : (q : ℕ) → q < length (fields_of ts shape.type shape.variant) → q < many_at leaf.shapes.slots k
       counted q h = omega (arith, h, shape.many)
 
-      unused : (q : ℕ) → length (fields_of ts shape.type shape.variant) ≤ q → get_or (part_list leaf.shapes leaf.classes at k) q 0 ≡ 0
-      unused q h = by_test (ltb q 3) (λ b. part-at leaf.shapes leaf.classes at k q (ltb-true q 3 b) ∙ part_missing leaf.shapes leaf.classes at k q (omega (arith, h, shape.many))) (λ b. past q (ltb-false q 3 b))
+      unused : (q : ℕ) → length (fields_of ts shape.type shape.variant) ≤ q → get_or (part_list leaf.shapes.slots leaf.state.classes at k) q 0 ≡ 0
+      unused q h = by_test (ltb q 3) (λ b. part-at leaf.shapes.slots leaf.state.classes at k q (ltb-true q 3 b) ∙ part_missing leaf.shapes.slots leaf.state.classes at k q (omega (arith, h, shape.many))) (λ b. past q (ltb-false q 3 b))
         where
-          past : (q : ℕ) → 3 ≤ q → get_or (part_list leaf.shapes leaf.classes at k) q 0 ≡ 0
+          past : (q : ℕ) → 3 ≤ q → get_or (part_list leaf.shapes.slots leaf.state.classes at k) q 0 ≡ 0
           past zero l = absurd (omega arith)
           past (suc zero) l = absurd (omega arith)
           past (suc (suc zero)) l = absurd (omega arith)
           past (suc (suc (suc q))) l = refl
 
-      parts : PartsShow ts rows many shape.type shape.variant (part_list leaf.shapes leaf.classes at k) f
+      parts : PartsShow ts rows many shape.type shape.variant (part_list leaf.shapes.slots leaf.state.classes at k) f
       parts = record {
         small = shape.small;
         fits = shape.fits;
@@ -168,9 +172,9 @@ module _ (leaf : Leaf) (at : List ℕ) (k : ℕ) (fits : LeafFits leaf) (inside 
 
 -- ---- constants
 
-pub constant-drawn : (leaf : Leaf) (k : ℕ) (rows : List ℤ) (many t : ℕ) (z : ℤ) (r : ℕ) (rows' : List ℤ) (many' : ℕ) → t ≡ get_or leaf.constants k 0 - 1 → z ≡ constant_value leaf.values k
+pub constant_drawn : (leaf : Leaf) (k : ℕ) (rows : List ℤ) (many t : ℕ) (z : ℤ) (r : ℕ) (rows' : List ℤ) (many' : ℕ) → t ≡ get_or leaf.constants.sorts k 0 - 1 → z ≡ constant_value leaf.constants.values k
     → NumberDrawn rows many t z rows' many' r → ConstantDrawn leaf rows many k rows' many' r
-constant-drawn leaf k rows many t z r rows' many' et ez drew ts val drawn c is store =
+constant_drawn leaf k rows many t z r rows' many' et ez drew ts val drawn c is store =
     let e : t ≡ is.type = omega (arith, et, is.sort) in
     subst (λ (m : Message). Drew ts rows many drawn 1 m rows' many' drawn r) (sym (is.value ∙ ap (number is.type) (sym ez) ∙ ap (λ (u : ℕ). number u z) (sym e)))
     (drew ts drawn (subst (λ (u : ℕ). u < length ts) (sym e) is.known) (ap (is_number ts) e ∙ is.is_number) store)
@@ -186,12 +190,12 @@ none-at (suc zero) = refl
 none-at (suc (suc zero)) = refl
 none-at (suc (suc (suc q))) = refl
 
-pub none-low : LowRows no_parts
-none-low = (refl, λ q. omega (arith, none-at q))
+pub none_low : LowRows no_parts
+none_low = (refl, λ q. omega (arith, none-at q))
 
-pub single-drawn : (leaf : Leaf) (y : ℕ) (rows : List ℤ) (many t v r : ℕ) (rows' : List ℤ) (many' : ℕ) → 4 * many + 4 ≤ length rows → t ≡ sort_at leaf.sorts y - 1 → v ≡ lowest_in (label_of (state_of (open_state [] leaf)) y)
+pub single_drawn : (leaf : Leaf) (y : ℕ) (rows : List ℤ) (many t v r : ℕ) (rows' : List ℤ) (many' : ℕ) → 4 * many + 4 ≤ length rows → t ≡ sort_at leaf.sorts.sorts y - 1 → v ≡ lowest_in (label_of (state_of (open_state [] leaf)) y)
     → r ≡ row_found rows 0 many (made_row t v (map pos no_parts)) → rows' ≡ with_row rows many r (made_row t v (map pos no_parts)) → many' ≡ many_after many r → SingleDrawn leaf rows many y rows' many' r
-single-drawn leaf y rows many t v r rows' many' long et ev found with_it now ts val drawn c is store =
+single_drawn leaf y rows many t v r rows' many' long et ev found with_it now ts val drawn c is store =
     subst (λ (m : Message). Drew ts rows many drawn 1 m rows' many' drawn r) value
     (made-drew ts rows many drawn store long t v no_parts (λ q. no_message) parts r rows' many' found with_it now)
   where
@@ -227,28 +231,29 @@ module _ (leaf : Leaf) (at : List ℕ) (rows : List ℤ) (many c : ℕ) (rows' :
   abbrev x : Types → OpenState
   x ts = open_state ts leaf
 
-  pub by_shape : (k : ℕ) → k ≡ shape_of leaf.shapes (state_of (open_state [] leaf)) c → k < 30 → ShapeDrawn leaf at rows many k rows' many' r → FixedDrawn leaf at rows many c rows' many' r
-  unfolding shape_of lowest
-  by_shape k e h drew ts val drawn pic sheet want free lower =
-      drew ts val drawn c (pic.shape c k want h (subst (λ (n : ℕ). is_shape leaf.shapes (state_of (open_state ts leaf)) c n ≡ true) (sym e) (least_passes (is_shape leaf.shapes (state_of (open_state ts leaf)) c) 30 (omega (arith, e, h))))) sheet lower
+  pub by_shape : (k : ℕ) → k < 30 → k ≡ lowest (is_shape leaf.shapes.slots leaf.state c) 30 → ShapeDrawn leaf at rows many k rows' many' r → FixedDrawn leaf at rows many c rows' many' r
+  unfolding lowest
+  by_shape k h e drew ts val drawn pic sheet want free lower =
+      drew ts val drawn c (pic.shape c k want h (subst (λ (n : ℕ). is_shape leaf.shapes.slots leaf.state c n ≡ true) (sym e) (least_passes (is_shape leaf.shapes.slots leaf.state c) 30 (omega (arith, e, h))))) sheet lower
 
-  pub by-constant : (k : ℕ) → k ≡ constant_of leaf.constants leaf.classes c → k < 30 → ConstantDrawn leaf rows many k rows' many' r → FixedDrawn leaf at rows many c rows' many' r
-  by-constant k e h drew ts val drawn pic sheet want free lower =
+  pub by_constant : (k : ℕ) → k < 30 → k ≡ lowest (is_constant_of leaf.constants.sorts leaf.state.classes c) 30 → ConstantDrawn leaf rows many k rows' many' r → FixedDrawn leaf at rows many c rows' many' r
+  unfolding constant_of
+  by_constant k h e drew ts val drawn pic sheet want free lower =
       drew ts val drawn c (subst (ConstantIs (x ts) val c) (sym e) (pic.constant c want (subst (λ (n : ℕ). n < 30) e h))) sheet.store
 
-  pub by-single : (y : ℕ) → y ≡ single_of leaf.sorts leaf.fieldless (state_of (open_state [] leaf)) c → 30 ≤ shape_of leaf.shapes (state_of (open_state [] leaf)) c
-      → 30 ≤ constant_of leaf.constants leaf.classes c → SingleDrawn leaf rows many y rows' many' r → FixedDrawn leaf at rows many c rows' many' r
-  unfolding is_free free_at marked
-  by-single y e no_shape noConstant drew ts val drawn pic sheet want free lower =
-      drew ts val drawn c (subst (SingleIs (x ts) val c) (sym e) (pic.single c want found)) sheet.store
+  pub by_single : (y : Option ℕ) (n : ℕ) → n ≡ unwrap_or y 78 → Finds (is_single leaf.sorts.sorts leaf.sorts.fieldless leaf.state c) 78 y → lowest (is_shape leaf.shapes.slots leaf.state c) 30 ≡ 30
+      → lowest (is_constant_of leaf.constants.sorts leaf.state.classes c) 30 ≡ 30 → SingleDrawn leaf rows many n rows' many' r → FixedDrawn leaf at rows many c rows' many' r
+  unfolding is_free free_at marked shape_of constant_of single_of
+  by_single y n en e no_shape no_constant drew ts val drawn pic sheet want free lower =
+      drew ts val drawn c (subst (SingleIs (x ts) val c) (sym (en ∙ found_or (is_single leaf.sorts.sorts leaf.sorts.fieldless leaf.state c) 78 y e)) (pic.single c want found)) sheet.store
     where
       -- nothing else fixes the class, and it is not free
-      found : single_of leaf.sorts leaf.fieldless (state_of (open_state ts leaf)) c < 78
-      found = by_test (leb 78 (single_of leaf.sorts leaf.fieldless (state_of (open_state ts leaf)) c))
-          (λ b. absurd (false≢true (sym free ∙ and_both (is_marked leaf.marks c) _ want.1 (and_both (leb 30 (shape_of leaf.shapes (state_of (open_state ts leaf)) c)) _ (le-leb _ _ no_shape) (and_both _ _ (le-leb _ _ noConstant) b)))))
+      found : single_of leaf.sorts.sorts leaf.sorts.fieldless leaf.state c < 78
+      found = by_test (leb 78 (single_of leaf.sorts.sorts leaf.sorts.fieldless leaf.state c))
+          (λ b. absurd (false≢true (sym free ∙ and_both (is_marked leaf.marks c) _ want.1 (and_both (leb 30 (shape_of leaf.shapes.slots leaf.state c)) _ (le-leb 30 _ (omega (arith, no_shape))) (and_both _ _ (le-leb 30 (constant_of leaf.constants.sorts leaf.state.classes c) (omega (arith, no_constant))) b)))))
           (λ b. leb-false _ _ b)
 
 -- the lowest term of one fieldless variant alone is a term
-pub single-below : (sorts fieldless : List ℕ) (s : State) (c : ℕ) → single_of sorts fieldless s c < 96
-unfolding single_of lowest
-single-below sorts fieldless s c = omega (arith, least_most (is_single sorts fieldless s c) 78)
+pub single_below : (sorts fieldless : List ℕ) (s : State) (c : ℕ) (y : Option ℕ) → Finds (is_single sorts fieldless s c) 78 y → unwrap_or y 78 < 96
+unfolding lowest
+single_below sorts fieldless s c y e = omega (arith, found_or (is_single sorts fieldless s c) 78 y e, least_most (is_single sorts fieldless s c) 78)

@@ -67,7 +67,7 @@ pub fn decide_within(
         return refuse(Question::ShortBuffer, rows, places);
     }
     match reader::read(file, types, terms, lines) {
-        Ok(t) => answer_search(t, budget, rows, places),
+        Ok(t) => answer_search(&t, budget, rows, places),
         Err(q) => refuse(q, rows, places),
     }
 }

@@ -201,13 +201,13 @@ module _ (forms : Forms) (fit : FormsFit forms) (leaf : Leaf) (c : ℕ) where
     pub type-known : t < length ts
     type-known = subst (λ (k : ℕ). k < length ts) (sym is_t) fits.known
 
-    module _ (varied : is_number ts t ≡ false) (v : ℕ) (is_v : v ≡ variant_in ts (get_or leaf.labels c 0) t) where
+    module _ (varied : is_number ts t ≡ false) (v : ℕ) (is_v : v ≡ variant_in ts (get_or leaf.state.labels c 0) t) where
       varied_class : is_number ts (type_for x c) ≡ false
       varied_class = ap (is_number ts) (sym is_t) ∙ varied
 
       variant_is : v ≡ variant_for x c
       unfolding variant_for
-      variant_is = is_v ∙ ap (variant_in ts (get_or leaf.labels c 0)) is_t
+      variant_is = is_v ∙ ap (variant_in ts (get_or leaf.state.labels c 0)) is_t
 
       pub variant_fits_lem : v < length (variants_of ts t)
       variant_fits_lem = subst (λ (k : ℕ). k < length (variants_of ts t)) (sym variant_is) (subst (λ (k : ℕ). variant_for x c < length (variants_of ts k)) (sym is_t) (fits.fits varied_class))
@@ -225,7 +225,7 @@ module _ (forms : Forms) (fit : FormsFit forms) (leaf : Leaf) (c : ℕ) where
         -- ---- what is drawn
 
         module _ (rows : List ℤ) (many : ℕ) (drawn tops : List ℕ) (most last : ℕ) (now : FreeNow x c rows many drawn tops most last) where
-          pub ended-free : steps_to_number ts s < length ts → (next : ℕ) → next ≡ next_fresh leaf.constants leaf.values last
+          pub ended-free : steps_to_number ts s < length ts → (next : ℕ) → next ≡ next_fresh leaf.constants.sorts leaf.constants.values last
               → (rows' : List ℤ) (many' : ℕ) (drawn' : List ℕ) (r : ℕ) → Drew ts rows many drawn (3 * length ts - 1) (planned_message ts t (into v (steps_to_number ts (chosen_type ts t v)) (pos next))) rows' many' drawn' r
               → FreeDrawn x c rows many drawn rows' many' drawn' tops next r
           ended-free ends next is_next rows' many' drawn' r d = record {
@@ -332,12 +332,12 @@ module _ (forms : Forms) (fit : FormsFit forms) (leaf : Leaf) (c : ℕ) where
             circled_free rows' many' drawn' tops' r d noted = record {
               drew = drew-more (growth_rows ts most) (growth_rows ts (highest_rank x)) (omega (arith, now.highest)) (subst (λ (m : Message). Drew ts rows many drawn (growth_rows ts most) m rows' many' drawn' r) circled_whole d);
               chains = lap_chains rows' many' tops' noted d.grown;
-              fresh = now.fresh ∙ ap (fresh_after leaf.constants leaf.values) (sym (ends_same x c now.small (ap₂ (λ (a b : Bool). a && not b) now.free round)));
+              fresh = now.fresh ∙ ap (fresh_after leaf.constants.sorts leaf.constants.values) (sym (ends_same x c now.small (ap₂ (λ (a b : Bool). a && not b) now.free round)));
             }
 
     -- a number type
     pub number-free : is_number ts t ≡ true → (rows : List ℤ) (many : ℕ) (drawn tops : List ℕ) (most last : ℕ) → FreeNow x c rows many drawn tops most last
-        → (next : ℕ) → next ≡ next_fresh leaf.constants leaf.values last → (rows' : List ℤ) (many' r : ℕ) → NumberDrawn rows many t (pos next) rows' many' r
+        → (next : ℕ) → next ≡ next_fresh leaf.constants.sorts leaf.constants.values last → (rows' : List ℤ) (many' r : ℕ) → NumberDrawn rows many t (pos next) rows' many' r
         → FreeDrawn x c rows many drawn rows' many' drawn tops next r
     number-free n rows many drawn tops most last now next is_next rows' many' r number-drawn = record {
       drew = drew-more 1 (growth_rows ts (highest_rank x)) (omega (arith, type-known)) (subst (λ (m : Message). Drew ts rows many drawn 1 m rows' many' drawn r) whole d);

@@ -51,7 +51,7 @@ six_zeros (suc (suc (suc (suc (suc (suc t)))))) = refl
 -- ---- what the code reads
 
 module _ (ts : Types) (leaf : Leaf) (c : ℕ) where
-  pub free-read : is_free (open_state ts leaf) c ≡ free_at leaf.shapes leaf.sorts leaf.fieldless leaf.constants leaf.marks (state leaf.classes leaf.labels) c
+  pub free-read : is_free (open_state ts leaf) c ≡ free_at leaf.shapes.slots leaf.sorts.sorts leaf.sorts.fieldless leaf.constants.sorts leaf.marks (state leaf.state.classes leaf.state.labels) c
   unfolding is_free
   free-read = refl
 

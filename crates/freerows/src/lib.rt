@@ -11,7 +11,7 @@ ghost use Rattle.forms.specs.Forms.{FormsFit, types_in};
 ghost use Rattle.drawnrows.specs.Drawing.{Drew, NumberDrawn, Room, Store};
 ghost use Rattle.plans.specs.Fresh.{next_fresh};
 ghost use Rattle.plans.specs.Plans.{highest_rank, is_free, type_for};
-ghost use Rattle.leaf.specs.Leaf.{LeafFits, open_state};
+ghost use Rattle.leaf.specs.Leaf.{open_state};
 ghost use Rattle.leaf.specs.Sheet.{Enough};
 ghost use Rattle.chains.specs.Chains.{Starts};
 ghost use Rattle.freerows.specs.Free.{Blank, ClassFits, FreeDrawn, FreeFits, FreeNow, FreeSheet, FreeStage};
@@ -35,16 +35,14 @@ struct Counted {
 }
 
 // The next fresh number, of number type `t`.
-fn number_planned(leaf: Leaf, rows: &mut [i32], many: usize, last: u32, t: u8) -> Planned
+fn number_planned(leaf: &Leaf, rows: &mut [i32], many: usize, last: u32, t: u8) -> Planned
     requires many_bound { many < 4096 }
     requires many_in_bounds { 4 * many + 4 ≤ length rows.old }
     requires last_bound { last ≤ 4096 }
-    ensures last_value { result.last ≡ next_fresh leaf.constants leaf.values last }
+    ensures last_value { result.last ≡ next_fresh leaf.now.constants.sorts leaf.now.constants.values last }
     ensures number_drawn { NumberDrawn rows.old many t (pos result.last) rows.new result.many result.row }
 {
-    let constants = leaf.constants;
-    let values = leaf.values;
-    let z = plans::next_fresh(&constants, &values, last);
+    let z = plans::next_fresh(&leaf.constants, last);
     let d = drawnrows::number_row(rows, many, t, z as i64);
     Planned {
         row: d.row,
@@ -55,8 +53,8 @@ fn number_planned(leaf: Leaf, rows: &mut [i32], many: usize, last: u32, t: u8) -
 
 // Variant `v` of type `t` over growth to the next fresh number.
 fn ended_planned(
-    leaf: Leaf,
-    forms: Forms,
+    leaf: &Leaf,
+    forms: &Forms,
     rows: &mut [i32],
     drawn: &mut [u16; 6],
     many: usize,
@@ -65,19 +63,17 @@ fn ended_planned(
     v: u8,
     s: u8,
 ) -> Planned
-    requires forms_fit { FormsFit forms }
-    requires store { Store (types_in forms) rows.old many drawn.old }
-    requires room { Room rows.old many drawn.old (3 * length (types_in forms) - 1) }
+    requires forms_fit { FormsFit forms.now }
+    requires store { Store (types_in forms.now) rows.old many drawn.old }
+    requires room { Room rows.old many drawn.old (3 * length (types_in forms.now) - 1) }
     requires last_bound { last ≤ 4096 }
-    requires starts { Starts (types_in forms) t v s }
-    requires s_in_bounds { steps_to_number (types_in forms) s < length (types_in forms) }
-    ensures last_value { result.last ≡ next_fresh leaf.constants leaf.values last }
-    ensures drew { Drew (types_in forms) rows.old many drawn.old (3 * length (types_in forms) - 1) (planned_message (types_in forms) t (into v (steps_to_number (types_in forms) (chosen_type (types_in forms) t v)) (pos result.last))) rows.new result.many drawn.new result.row }
+    requires starts { Starts (types_in forms.now) t v s }
+    requires s_in_bounds { steps_to_number (types_in forms.now) s < length (types_in forms.now) }
+    ensures last_value { result.last ≡ next_fresh leaf.now.constants.sorts leaf.now.constants.values last }
+    ensures drew { Drew (types_in forms.now) rows.old many drawn.old (3 * length (types_in forms.now) - 1) (planned_message (types_in forms.now) t (into v (steps_to_number (types_in forms.now) (chosen_type (types_in forms.now) t v)) (pos result.last))) rows.new result.many drawn.new result.row }
 {
-    let constants = leaf.constants;
-    let values = leaf.values;
-    let z = plans::next_fresh(&constants, &values, last);
-    let d = chains::ended_row(forms, rows, drawn, many, t, v, s, z as i64);
+    let z = plans::next_fresh(&leaf.constants, last);
+    let d = chains::ended_row(*forms, rows, drawn, many, t, v, s, z as i64);
     Planned {
         row: d.row,
         many: d.many,
@@ -86,19 +82,17 @@ fn ended_planned(
 }
 
 // The type of free class `c`.
-fn type_of(leaf: Leaf, forms: Forms, c: u8) -> u8
-    requires { ClassFits (open_state (types_in forms) leaf) c }
-    ensures { result ≡ type_for (open_state (types_in forms) leaf) c }
+fn type_of(leaf: &Leaf, forms: &Forms, c: u8) -> u8
+    requires { ClassFits (open_state (types_in forms.now) leaf.now) c }
+    ensures { result ≡ type_for (open_state (types_in forms.now) leaf.now) c }
 {
-    let classes = leaf.classes;
-    let sorts = leaf.sorts;
-    plans::sort_for(&classes, &sorts, c) - 1
+    plans::sort_for(&leaf.state, &leaf.sorts, c) - 1
 }
 
 // Free class `c` of variant type `t`.
 fn variant_planned(
-    leaf: Leaf,
-    forms: Forms,
+    leaf: &Leaf,
+    forms: &Forms,
     rows: &mut [i32],
     drawn: &mut [u16; 6],
     tops: &mut [u16; 6],
@@ -108,20 +102,18 @@ fn variant_planned(
     c: u8,
     t: u8,
 ) -> Planned
-    requires forms_fit { FormsFit forms }
-    requires free_now { FreeNow (open_state (types_in forms) leaf) c rows.old many drawn.old tops.old most last }
-    requires t_value { t ≡ type_for (open_state (types_in forms) leaf) c }
-    requires t_value_2 { is_number (types_in forms) t ≡ false }
-    ensures { FreeDrawn (open_state (types_in forms) leaf) c rows.old many drawn.old rows.new result.many drawn.new tops.new result.last result.row }
+    requires forms_fit { FormsFit forms.now }
+    requires free_now { FreeNow (open_state (types_in forms.now) leaf.now) c rows.old many drawn.old tops.old most last }
+    requires t_value { t ≡ type_for (open_state (types_in forms.now) leaf.now) c }
+    requires t_value_2 { is_number (types_in forms.now) t ≡ false }
+    ensures { FreeDrawn (open_state (types_in forms.now) leaf.now) c rows.old many drawn.old rows.new result.many drawn.new tops.new result.last result.row }
 {
-    let table = forms.table;
-    let growth = forms.growth;
-    let v = plans::variant_for(table, leaf.labels[c as usize], t);
-    let s = chains::start(forms, t, v);
-    if (growth.steps[s as usize] as usize) < table.many {
+    let v = plans::variant_for(&forms.table, leaf.state.class_label(c), t);
+    let s = chains::start(*forms, t, v);
+    if (forms.growth.steps[s as usize] as usize) < forms.table.many {
         return ended_planned(leaf, forms, rows, drawn, many, last, t, v, s);
     }
-    let d = chains::circled_row(forms, rows, drawn, tops, many, most, t, v, s);
+    let d = chains::circled_row(*forms, rows, drawn, tops, many, most, t, v, s);
     Planned {
         row: d.row,
         many: d.many,
@@ -131,8 +123,8 @@ fn variant_planned(
 
 // Free class `c`.
 fn free_row(
-    leaf: Leaf,
-    forms: Forms,
+    leaf: &Leaf,
+    forms: &Forms,
     rows: &mut [i32],
     drawn: &mut [u16; 6],
     tops: &mut [u16; 6],
@@ -141,13 +133,12 @@ fn free_row(
     last: u32,
     c: u8,
 ) -> Planned
-    requires forms_fit { FormsFit forms }
-    requires free_now { FreeNow (open_state (types_in forms) leaf) c rows.old many drawn.old tops.old most last }
-    ensures { FreeDrawn (open_state (types_in forms) leaf) c rows.old many drawn.old rows.new result.many drawn.new tops.new result.last result.row }
+    requires forms_fit { FormsFit forms.now }
+    requires free_now { FreeNow (open_state (types_in forms.now) leaf.now) c rows.old many drawn.old tops.old most last }
+    ensures { FreeDrawn (open_state (types_in forms.now) leaf.now) c rows.old many drawn.old rows.new result.many drawn.new tops.new result.last result.row }
 {
-    let table = forms.table;
     let t = type_of(leaf, forms, c);
-    if table.variants[t as usize] == 0 {
+    if forms.table.variants[t as usize] == 0 {
         return number_planned(leaf, rows, many, last, t);
     }
     variant_planned(leaf, forms, rows, drawn, tops, many, most, last, c, t)
@@ -155,8 +146,8 @@ fn free_row(
 
 // Draws free class `c`, and notes its row.
 fn draw_free(
-    leaf: Leaf,
-    forms: Forms,
+    leaf: &Leaf,
+    forms: &Forms,
     at: &mut [u16; 96],
     rows: &mut [i32],
     drawn: &mut [u16; 6],
@@ -167,13 +158,12 @@ fn draw_free(
     c: u8,
 ) -> Counted
     requires c_bound { c < 78 }
-    requires leaf_fits { LeafFits leaf }
-    requires forms_fit { FormsFit forms }
-    requires free_fits { FreeFits (open_state (types_in forms) leaf) }
-    requires most_value { most ≡ highest_rank (open_state (types_in forms) leaf) }
-    requires free_stage { FreeStage (open_state (types_in forms) leaf) c at.old rows.old many drawn.old tops.old last }
-    requires c_value { is_free (open_state (types_in forms) leaf) c ≡ true }
-    ensures free_stage_2 { FreeStage (open_state (types_in forms) leaf) (suc c) at.new rows.new result.many drawn.new tops.new result.last }
+    requires forms_fit { FormsFit forms.now }
+    requires free_fits { FreeFits (open_state (types_in forms.now) leaf.now) }
+    requires most_value { most ≡ highest_rank (open_state (types_in forms.now) leaf.now) }
+    requires free_stage { FreeStage (open_state (types_in forms.now) leaf.now) c at.old rows.old many drawn.old tops.old last }
+    requires c_value { is_free (open_state (types_in forms.now) leaf.now) c ≡ true }
+    ensures free_stage_2 { FreeStage (open_state (types_in forms.now) leaf.now) (suc c) at.new rows.new result.many drawn.new tops.new result.last }
     ensures grown { Grown rows.old many rows.new result.many }
 {
     let d = free_row(leaf, forms, rows, drawn, tops, many, most, last, c);
@@ -186,29 +176,32 @@ fn draw_free(
 
 // All free classes, into a buffer of rows that is taken as empty. `at` says of each class 0, or one more than its row;
 // `most` is the highest rank. The number of rows then.
-pub fn free_rows(leaf: Leaf, forms: Forms, at: &mut [u16; 96], rows: &mut [i32], most: u8) -> usize
-    requires leaf_fits { LeafFits leaf }
-    requires forms_fit { FormsFit forms }
-    requires free_fits { FreeFits (open_state (types_in forms) leaf) }
+pub fn free_rows(
+    leaf: &Leaf,
+    forms: &Forms,
+    at: &mut [u16; 96],
+    rows: &mut [i32],
+    most: u8,
+) -> usize
+    requires forms_fit { FormsFit forms.now }
+    requires free_fits { FreeFits (open_state (types_in forms.now) leaf.now) }
     requires blank { Blank at.old }
-    requires most_value { most ≡ highest_rank (open_state (types_in forms) leaf) }
-    requires enough { Enough (open_state (types_in forms) leaf) rows.old }
-    ensures { FreeSheet (types_in forms) leaf rows.old at.new rows.new result }
+    requires most_value { most ≡ highest_rank (open_state (types_in forms.now) leaf.now) }
+    requires enough { Enough (open_state (types_in forms.now) leaf.now) rows.old }
+    ensures { FreeSheet (types_in forms.now) leaf.now rows.old at.new rows.new result }
 {
-    let classes = leaf.classes;
-    let labels = leaf.labels;
-    let shapes = leaf.shapes;
-    let sorts = leaf.sorts;
-    let fieldless = leaf.fieldless;
-    let constants = leaf.constants;
-    let marks = leaf.marks;
     let mut drawn = [0u16; 6];
     let mut tops = [0u16; 6];
     let mut many: usize = 0;
     let mut last: u32 = 0;
     for c in 0..78 {
         if plans::is_free(
-            &classes, &labels, &shapes, &sorts, &fieldless, &constants, &marks, c,
+            &leaf.state,
+            &leaf.shapes,
+            &leaf.sorts,
+            &leaf.constants,
+            &leaf.marks,
+            c,
         ) {
             let d = draw_free(
                 leaf, forms, at, rows, &mut drawn, &mut tops, many, most, last, c,

@@ -62,11 +62,9 @@ pub fn grow(
     ensures under { Under (types_in forms) rows.new result.row row }
 {
     let growth = forms.growth;
-    let mut left = steps;
     let mut at = row;
     let mut count = many;
-    while 0 < left {
-        left -= 1;
+    for left in (0..steps).rev() {
         let u = forms::after(forms, left, t);
         let v = growth.growing[u as usize];
         let d = wrap(forms, rows, drawn, count, u, v, at);

@@ -20,7 +20,7 @@ use Rattle.arrays.specs.Slots.{ShapesFit, active, kind_at, many_at, owner_at, pa
 use Rattle.arrays.proofs.DueLaws.{quiet_one}
 use Rattle.congruence.specs.Due.{alike, owners_due, part_due, parts_due, same_owners, same_parts, shape_due, shapes_meet}
 use Rattle.congruence.proofs.Tests.{inactive, unlike}
-use Rattle.keys.specs.Keys.{AllThere, Keyed, Quiet, kind_byte, owner_key, parts_key}
+use Rattle.keys.specs.Keys.{Keyed, Quiet, kind_byte, owner_key, parts_key}
 
 -- ---- what the keys tell
 
@@ -36,7 +36,7 @@ module _ (h a b c : ℕ) {d e f : ℕ} (la : a < 256) (lb : b < 256) (lc : c < 2
   third-digit : c ≡ f
   third-digit = omega arith
 
-module _ (shapes : List ℕ) (fit : ShapesFit shapes) (s : State) (parts owners : List ℕ) (w : Keyed shapes s 30 parts owners) (inside : AllThere shapes s 30)
+module _ (shapes : List ℕ) (fit : ShapesFit shapes) (s : State) (inside : (x : ℕ) → class_of s x < 96) (parts owners : List ℕ) (w : Keyed shapes s 30 parts owners)
     (k i : ℕ) (hk : k < 30) (hi : i < 30) (like : alike shapes s k i ≡ true) where
   kinds : kind_at shapes k ≡ kind_at shapes i
   unfolding alike
@@ -69,25 +69,16 @@ module _ (shapes : List ℕ) (fit : ShapesFit shapes) (s : State) (parts owners 
   key_same : get_or parts i 0 ≡ get_or parts k 0 → (p : ℕ) → p < many_at shapes k → part i p ≡ part k p
   key_same e p h = at p (omega (arith, fit.many k hk))
     where
-      small : (j : ℕ) → j < 30 → active shapes s j ≡ true → (p : ℕ) → p < 3 → part j p < 256
-      small j h a zero l = omega (arith, (inside j h a).0)
-      small j h a (suc zero) l = omega (arith, (inside j h a).1)
-      small j h a (suc (suc zero)) l = omega (arith, (inside j h a).2)
-      small j h a (suc (suc (suc p))) l = absurd (omega arith)
-
-      here : (p : ℕ) → p < 3 → part i p < 256
-      here = small i hi second
-
-      there : (p : ℕ) → p < 3 → part k p < 256
-      there = small k hk first
+      small : (j p : ℕ) → part j p < 256
+      small j p = omega (arith, inside (part_at shapes j p))
 
       keys : parts_key shapes s i ≡ 16777216 * kind_byte shapes i + 65536 * part k 0 + 256 * part k 1 + part k 2
       keys = sym (w.parts_are i hi second) ∙ e ∙ w.parts_are k hk first ∙ omega (arith, bytes)
 
       at : (p : ℕ) → p < 3 → part i p ≡ part k p
-      at zero h = first-digit (kind_byte shapes i) (part i 0) (part i 1) (part i 2) (here 0 (omega arith)) (here 1 (omega arith)) (here 2 (omega arith)) (there 0 (omega arith)) (there 1 (omega arith)) (there 2 (omega arith)) keys
-      at (suc zero) h = second-digit (kind_byte shapes i) (part i 0) (part i 1) (part i 2) (here 0 (omega arith)) (here 1 (omega arith)) (here 2 (omega arith)) (there 0 (omega arith)) (there 1 (omega arith)) (there 2 (omega arith)) keys
-      at (suc (suc zero)) h = third-digit (kind_byte shapes i) (part i 0) (part i 1) (part i 2) (here 0 (omega arith)) (here 1 (omega arith)) (here 2 (omega arith)) (there 0 (omega arith)) (there 1 (omega arith)) (there 2 (omega arith)) keys
+      at zero h = first-digit (kind_byte shapes i) (part i 0) (part i 1) (part i 2) (small i 0) (small i 1) (small i 2) (small k 0) (small k 1) (small k 2) keys
+      at (suc zero) h = second-digit (kind_byte shapes i) (part i 0) (part i 1) (part i 2) (small i 0) (small i 1) (small i 2) (small k 0) (small k 1) (small k 2) keys
+      at (suc (suc zero)) h = third-digit (kind_byte shapes i) (part i 0) (part i 1) (part i 2) (small i 0) (small i 1) (small i 2) (small k 0) (small k 1) (small k 2) keys
       at (suc (suc (suc p))) h = absurd (omega arith)
 
   same-owner : get_or owners i 0 ≡ get_or owners k 0 → class_of s (owner_at shapes i) ≡ class_of s (owner_at shapes k)
@@ -107,7 +98,7 @@ module _ (shapes : List ℕ) (fit : ShapesFit shapes) (s : State) (parts owners 
       (λ t. key_same (eqb-true _ _ (q ∙ eq-eqb _ _ (owner-same (eqb-true _ _ (and_right (alike shapes s k i) _ t))))) p (omega (arith, (from_bounds (many_at shapes k) 0 p m).1)))))
 
 -- a shape and those before it
-module _ (shapes : List ℕ) (fit : ShapesFit shapes) (s : State) (parts owners : List ℕ) (w : Keyed shapes s 30 parts owners) (inside : AllThere shapes s 30) (k : ℕ) (hk : k < 30) where
+module _ (shapes : List ℕ) (fit : ShapesFit shapes) (s : State) (inside : (x : ℕ) → class_of s x < 96) (parts owners : List ℕ) (w : Keyed shapes s 30 parts owners) (k : ℕ) (hk : k < 30) where
   quiet-shape : Quiet parts owners k → All (λ f. holds s f ≡ true) (shape_due shapes s k)
   unfolding shape_due
   quiet-shape (inl z) =
@@ -115,7 +106,7 @@ module _ (shapes : List ℕ) (fit : ShapesFit shapes) (s : State) (parts owners 
       (λ a. subst (All (λ f. holds s f ≡ true)) (sym (inactive shapes s k a)) none)
   quiet-shape (inr q) =
       all-concat_map (shapes_meet shapes s k) (from k 0) (λ i m. let l : i < k = omega (arith, (from_bounds k 0 i m).1) in
-      by_test (alike shapes s k i) (λ a. agreed-pair shapes fit s parts owners w inside k i hk (omega arith) a (q i l))
+      by_test (alike shapes s k i) (λ a. agreed-pair shapes fit s inside parts owners w k i hk (omega arith) a (q i l))
       (λ a. subst (All (λ f. holds s f ≡ true)) (sym (unlike shapes s k i a)) none))
 
   pub quiet_pass : Quiet parts owners k → Pass (λ x. shape_due shapes x k) s s false

@@ -22,13 +22,6 @@ pub record Keyed (shapes : List ℕ) (s : State) (n : ℕ) (parts owners : List 
   pub parts_are : (k : ℕ) → k < n → active shapes s k ≡ true → get_or parts k 0 ≡ parts_key shapes s k
   pub owners_are : (k : ℕ) → k < n → active shapes s k ≡ true → get_or owners k 0 ≡ owner_key shapes s k
 
--- the classes in a shape's first key are there, so that they fit beside each other
-abbrev pub PartsThere : List ℕ → State → ℕ → Type 0
-PartsThere shapes s k = (class_of s (part_at shapes k 0) < 96) × (class_of s (part_at shapes k 1) < 96) × (class_of s (part_at shapes k 2) < 96)
-
-abbrev pub AllThere : List ℕ → State → ℕ → Type 0
-AllThere shapes s n = (k : ℕ) → k < n → active shapes s k ≡ true → PartsThere shapes s k
-
 -- slot k and each one before it agree in both keys or in none, or slot k has no keys
 abbrev pub Agreed : List ℕ → List ℕ → ℕ → ℕ → Type 0
 Agreed parts owners k n = (i : ℕ) → i < n → eqb (get_or parts i 0) (get_or parts k 0) ≡ eqb (get_or owners i 0) (get_or owners k 0)

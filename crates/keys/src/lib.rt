@@ -4,7 +4,7 @@
 ghost use Rattle.std.specs.Prelude.{◌≡◌, false, ◌+◌, ◌<◌};
 ghost use Rattle.passes.specs.Pass.{Pass};
 ghost use Rattle.congruence.specs.Due.{shape_due, shapes_due};
-ghost use Rattle.keys.specs.Keys.{AllThere, Keyed, PartsThere, Quiet, owner_key, parts_key};
+ghost use Rattle.keys.specs.Keys.{Keyed, Quiet, owner_key, parts_key};
 
 use classes::State;
 use slots::Shapes;
@@ -12,8 +12,7 @@ use slots::Shapes;
 // The kind and the classes of all parts as one number.
 fn parts_key(state: &State, shapes: &Shapes, k: usize) -> u32
     requires { k < 30 }
-    ensures value { result ≡ parts_key shapes.now.slots state.now k }
-    ensures there { PartsThere shapes.now.slots state.now k }
+    ensures { result ≡ parts_key shapes.now.slots state.now k }
 {
     let first = state.class_of(shapes.part(k, 0)) as u32;
     let second = state.class_of(shapes.part(k, 1)) as u32;
@@ -41,8 +40,7 @@ impl Keys {
     // In place, since the compiler copies what a function makes and hands out.
     fn fill(&mut self, state: &State, shapes: &Shapes)
         requires { Keyed shapes.now.slots state.now 0 self.old.parts self.old.owners }
-        ensures keyed { Keyed shapes.now.slots state.now 30 self.new.parts self.new.owners }
-        ensures there { AllThere shapes.now.slots state.now 30 }
+        ensures { Keyed shapes.now.slots state.now 30 self.new.parts self.new.owners }
     {
         for k in 0..30 {
             if shapes.active(state, k) {
@@ -75,9 +73,9 @@ impl Keys {
 fn pass_keyed(state: &mut State, shapes: &Shapes, keys: &Keys, k: usize) -> bool
     requires k_bound { k < 30 }
     requires keyed { Keyed shapes.now.slots state.old 30 keys.now.parts keys.now.owners }
-    requires there { AllThere shapes.now.slots state.old 30 }
     ensures { Pass (λ s. shape_due shapes.now.slots s k) state.old state.new result }
 {
+    state.held();
     if !keys.differs(k) {
         return false;
     }

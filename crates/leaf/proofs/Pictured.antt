@@ -3,7 +3,7 @@
 -- one fieldless variant that variant, and a free class the message of its plan. Assumes nothing.
 use mathlib.Core.Path.{◌≡◌, refl, ap, sym, ◌∙◌, subst}
 use mathlib.Core.Bool.{true}
-use mathlib.Core.List.{List, [], ◌∷◌, Memᴰ, map}
+use mathlib.Core.List.{List, [], Memᴰ, map}
 use Prim.Native.Nat.{ℕ, ◌≤◌, ◌<◌}
 use native.Mathlib.Omega.{arith}
 use lib.IntN.{ℤ}
@@ -22,7 +22,7 @@ use Rattle.guard.specs.Types.{Types, fields_of, is_number}
 use Rattle.guard.specs.WellFormed.{WellFormed}
 use Rattle.guard.proofs.Agreement.{Agrees}
 use Rattle.guard.proofs.ClosureState.{Small}
-use Rattle.growth.proofs.Injective.{Kind, Kind.const, Kind.free, Kind.node}
+use Rattle.growth.proofs.Injective.{Kind, Kind.free}
 use Rattle.growth.proofs.Plans.{planned_message}
 use Rattle.models.proofs.Classes.{ConstClass, IsClass, NodeClass, const_class, node_class, type-at}
 use Rattle.models.proofs.Drawing.{Drawing, drawn-belongs, free_by, message_of}

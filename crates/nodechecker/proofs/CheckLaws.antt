@@ -3,9 +3,8 @@
 use mathlib.Core.Path.{◌≡◌, refl, ap, sym, ◌∙◌, subst}
 use mathlib.Core.Bool.{Bool, true, false}
 use mathlib.Core.List.{List, [], ◌∷◌}
-use Prim.Native.Nat.{ℕ, zero, suc, ◌-◌, ◌^◌, ◌≤◌, ◌<◌}
+use Prim.Native.Nat.{ℕ, ◌-◌, ◌^◌, ◌≤◌, ◌<◌}
 use native.Mathlib.Omega.{arith}
-use lib.IntN.{ℤ}
 use Rattle.std.proofs.Common.{Result, Ok, Err}
 use lib.ListN.{length, drop, length-drop}
 use Rattle.laws.proofs.Lists.{length-nil}
@@ -33,7 +32,11 @@ use Rattle.refutations.specs.Checker.{below, check_from, check_node, entry}
 use Rattle.refutations.specs.Record.{Entry, Entry.split_on, claim}
 use Rattle.refutations.proofs.Depth.{check_step}
 use Rattle.splitclaims.specs.SplitClaims.{splits_by}
-use Rattle.claims.specs.Claims.{ClosedBy, entry_at}
+use Rattle.closings.specs.declared.Closing.{Closing}
+use Rattle.closings.specs.declared.Closing.TheVariants.{BrokenLine, EmptyLabel, InsideItself, UnlikeConstants}
+use Rattle.closings.specs.Closing.{entry_in}
+use Rattle.instance.specs.declared.Instance.{Instance}
+use Rattle.claims.specs.Claims.{ClosedBy}
 use Rattle.refutations.proofs.ClaimsAgree.{claim-agrees}
 use Rattle.claims.proofs.ClaimsSame.{closes_same, splits_same}
 use Rattle.nodechecker.specs.Nodes.{Checks, Passes}
@@ -44,20 +47,28 @@ node-reads : (holds : Entry → Bool) (child : Literal → Parser (Unit {0})) (b
 node-reads holds child [] h = absurd (omega (arith, h))
 node-reads holds child (b ∷ bs) h = refl
 
--- nothing follows an entry of kind 0 to 3
-nothing_below : (child : Literal → Parser (Unit {0})) (k : ℕ) → k < 4 → (a b : ℕ) (bs : List ℕ) → below child (entry_at k a b) bs ≡ accepted tt bs
-nothing_below child zero h a b bs = refl
-nothing_below child (suc zero) h a b bs = refl
-nothing_below child (suc (suc zero)) h a b bs = refl
-nothing_below child (suc (suc (suc zero))) h a b bs = refl
-nothing_below child (suc (suc (suc (suc k)))) h a b bs = absurd (omega (arith, h))
+-- nothing follows a reason to close
+nothing_below : (child : Literal → Parser (Unit {0})) (c : Closing) (bs : List ℕ) → below child (entry_in c) bs ≡ accepted tt bs
+nothing_below child (EmptyLabel x) bs = refl
+nothing_below child (BrokenLine j) bs = refl
+nothing_below child (UnlikeConstants x) bs = refl
+nothing_below child (InsideItself x) bs = refl
 
-module _ (shapes reads sorts full fieldless constants : List ℕ) (values : List ℤ) (kinds terms others : List ℕ) (many : ℕ) (bytes : List ℕ) where
+module _ (i : Instance) (reads bytes : List ℕ) where
+  abbrev shapes : List ℕ
+  shapes = i.shapes.slots
+
+  abbrev sorts : List ℕ
+  sorts = i.sorts.sorts
+
+  abbrev fieldless : List ℕ
+  fieldless = i.sorts.fieldless
+
   abbrev Gives : ℕ → State → Result ℕ Question → Type 0
-  Gives = Checks shapes reads sorts full fieldless constants values kinds terms others many bytes
+  Gives = Checks i reads bytes
 
   abbrev Arrays : Guard → Type 0
-  Arrays g = ArraysOf g shapes reads sorts full fieldless constants values kinds terms others many
+  Arrays g = ArraysOf g i reads
 
   module _ (at : ℕ) (s : State) where
     module _ (g : Guard) (ls : List Literal) (ok : Accepted g) (arrays : Arrays g) (begun : Begun g ls s) where
@@ -116,26 +127,26 @@ module _ (shapes reads sorts full fieldless constants : List ℕ) (values : List
 
         -- ---- reasons to close
 
-        module _ (reason number next : ℕ) (k : reason < 4) (read : Found (entry (drop at bytes)) bytes (entry_at reason number 0) next) (b : Bool)
-            (tells : Tells (ClosedBy shapes sorts full constants values kinds terms others many s₁ reason number) b) where
-          claimed : (g : Guard) (ls : List Literal) (ok : Accepted g) (arrays : Arrays g) (begun : Begun g ls s) → b ≡ claim (table_of g) g.literals s₁ (entry_at reason number 0)
+        module _ (closing : Closing) (next : ℕ) (read : Found (entry (drop at bytes)) bytes (entry_in closing) next) (b : Bool)
+            (tells : Tells (ClosedBy i.shapes.slots i.sorts.sorts i.sorts.full i.constants.sorts i.constants.values i.lines.kinds i.lines.terms i.lines.others i.lines.many s₁ closing) b) where
+          claimed : (g : Guard) (ls : List Literal) (ok : Accepted g) (arrays : Arrays g) (begun : Begun g ls s) → b ≡ claim (table_of g) g.literals s₁ (entry_in closing)
           unfolding literal_table
           claimed g ls ok arrays begun =
               closes_same ok.limits ok.supported g ok.well_formed ok.total s₁ (reached-small (there g ls ok arrays begun)) held
-              (λ i h. omega (arith, (named-reached (there g ls ok arrays begun)).low i)) reason k number 0 b
+              (λ i h. omega (arith, (named-reached (there g ls ok arrays begun)).low i)) closing b
               (rw (sym arrays.is_shapes, sym arrays.is_sorts, sym arrays.is_full, sym arrays.is_constants, sym arrays.is_values, sym arrays.is_kinds, sym arrays.is_terms, sym arrays.is_others, sym arrays.is_many) tells)
 
           pub closed : b ≡ true → Gives at s (Ok next)
           unfolding Checks
           closed q g ls ok arrays begun =
               record {
-                accepts = asked g ls ok arrays begun (entry_at reason number 0) next read true (sym (claimed g ls ok arrays begun) ∙ q) ∙ nothing_below (child g ls ok arrays begun) reason k number 0 (drop next bytes);
+                accepts = asked g ls ok arrays begun (entry_in closing) next read true (sym (claimed g ls ok arrays begun) ∙ q) ∙ nothing_below (child g ls ok arrays begun) closing (drop next bytes);
                 within = read.within;
               }
 
-          pub not_closed_lem : b ≡ false → Gives at s (Err FalseEntry)
+          pub not_closed : b ≡ false → Gives at s (Err FalseEntry)
           unfolding Checks
-          not_closed_lem q g ls ok arrays begun = asked g ls ok arrays begun (entry_at reason number 0) next read false (sym (claimed g ls ok arrays begun) ∙ q)
+          not_closed q g ls ok arrays begun = asked g ls ok arrays begun (entry_in closing) next read false (sym (claimed g ls ok arrays begun) ∙ q)
 
         -- ---- splits
 

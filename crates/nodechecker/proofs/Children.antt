@@ -14,15 +14,13 @@ use Rattle.guard.specs.Node.{holds_another}
 use Rattle.passes.specs.Pass.{Due, Steps}
 use Rattle.passes.proofs.PassLaws.{steps_keep}
 use Rattle.search.specs.Nodes.{StateFit}
-use Rattle.search.proofs.Decisions.{fit-steps}
 use Rattle.search.proofs.Measure.{is-lower, isnt-lower, label_sum, sum_le}
 use Rattle.splitclaims.specs.SplitClaims.{is_term, splits_by}
-use Rattle.splitclaims.proofs.SplitTests.{term-small}
 
 module _ (sorts : List ℕ) (s : State) (x v : ℕ) (e : splits_by sorts s x v ≡ true) where
   pub split-term : x < 78
-  unfolding splits_by
-  split-term = term-small sorts x (and_left (is_term sorts x) _ e)
+  unfolding splits_by is_term
+  split-term = ltb-true x 78 (and_left (ltb x 78) _ (and_left (is_term sorts x) _ e))
 
   pub split-variant : v < variant_limit
   unfolding splits_by
@@ -34,10 +32,7 @@ module _ (sorts : List ℕ) (s : State) (x v : ℕ) (e : splits_by sorts s x v �
 
   -- ---- the number that falls
 
-  module _ {due : Due} (before : State) (steps : Steps due before s) (fit : StateFit before) (child : State) (bit : ℕ) (b : bit ≡ 2 ^ v) where
-    ready : StateFit s
-    ready = fit-steps steps fit
-
+  module _ {due : Due} (before : State) (steps : Steps due before s) (ready : StateFit s) (child : State) (bit : ℕ) (b : bit ≡ 2 ^ v) where
     inside : class_of s x < length s.labels
     inside = omega (arith, ready.long, ready.held.there x)
 

@@ -1,5 +1,5 @@
 -- What the check of a node gives, in terms of the checker of request #101. Assumes nothing: definitions.
-use Rattle.std.specs.Prelude.{◌≡◌, List, ℕ, ℤ, drop, Result, Ok, Err}
+use Rattle.std.specs.Prelude.{◌≡◌, List, ℕ, drop, Result, Ok, Err}
 use Rattle.guard.specs.Closure.{State}
 use Rattle.guard.specs.Guard.{Guard, Literal}
 use Rattle.guard.specs.Number.{Parsed, Parsed.refused}
@@ -7,6 +7,7 @@ use Rattle.guard.specs.Question.{number_of}
 use Rattle.guard.specs.declared.Question.{Question}
 use Rattle.guard.specs.Terms.{table_of}
 use Rattle.numbers.specs.Reader.{Found}
+use Rattle.instance.specs.declared.Instance.{Instance}
 use Rattle.search.specs.Nodes.{Accepted, ArraysOf, Begun}
 use Rattle.refutations.specs.Checker.{check_from}
 
@@ -16,7 +17,7 @@ Passes p bytes (Ok at) = Found p bytes tt at
 Passes p bytes (Err q) = p ≡ refused (number_of q)
 
 -- From a node that has begun: what the code finds from the cursor on is what the defined checker does.
-unfoldable pub Checks : List ℕ → List ℕ → List ℕ → List ℕ → List ℕ → List ℕ → List ℤ → List ℕ → List ℕ → List ℕ → ℕ → List ℕ → ℕ → State → Result ℕ Question → Type 0
-Checks shapes reads sorts full fieldless constants values kinds terms others many bytes at s r =
-    (g : Guard) (ls : List Literal) → Accepted g → ArraysOf g shapes reads sorts full fieldless constants values kinds terms others many → Begun g ls s
+unfoldable pub Checks : Instance → List ℕ → List ℕ → ℕ → State → Result ℕ Question → Type 0
+Checks i reads bytes at s r =
+    (g : Guard) (ls : List Literal) → Accepted g → ArraysOf g i reads → Begun g ls s
     → Passes (check_from (table_of g) g.literals ls (drop at bytes)) bytes r

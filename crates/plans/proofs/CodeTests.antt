@@ -1,31 +1,28 @@
 -- The tests of the code, case by case, and its loops a turn at a time. Assumes nothing.
 use mathlib.Core.Path.{◌≡◌, refl, ap, sym, ◌∙◌}
-use mathlib.Core.Bool.{Bool, true, false, cond, not, ◌&&◌}
+use mathlib.Core.Bool.{Bool, cond, not, ◌&&◌}
 use mathlib.Core.List.{List}
 use Prim.Native.Nat.{ℕ, ◌+◌, ◌≤◌, ◌<◌, max}
 use native.Mathlib.Numerals.{add-one}
 use native.Mathlib.Omega.{arith}
 use lib.Dec.{eqb, leb, ltb}
-use lib.IntN.{ℤ, pos}
+use lib.IntN.{ℤ}
 use lib.ListN.{get_or, length}
-use mir.Syntax.{w64}
-use mir.Val.{SFits, of_z}
 use borrow.Author.Tests.{eq-eqb, le-leb, lt-leb, ltb-false, ltb-true, ne_eqb}
 use Rattle.laws.specs.Bits.{bit}
 use Rattle.laws.proofs.Bools.{by_test}
 use Rattle.laws.proofs.Positions.{least, least_first, least_most, least_passes}
-use Rattle.guard.specs.Closure.{State, eq_z}
 use Rattle.guard.specs.Types.{fields_of}
-use Rattle.tables.specs.Layout.{types_of}
+use Rattle.tables.specs.Layout.{TypesInRange, types_of}
 use Rattle.tables.specs.declared.TypeTable.{TypeTable}
 use Rattle.tables.proofs.Held.{held-arity, held-variants, place_of}
-use Rattle.loops.specs.Lowest.{lowest}
-use Rattle.loops.proofs.Loops.{NoneBelow, lowest-here, lowest_nowhere}
-use Rattle.loops.proofs.Tests.{and_no, no_and, yes_and}
-use Rattle.constants.specs.Constants.{constant_value}
-use Rattle.constants.proofs.ConstantTests.{same_bits}
-use Rattle.kinds.specs.Found.{constant_of, shape_of, single_of}
-use Rattle.plans.specs.Chosen.{free_at, held_at, held_in, higher_at, highest_below, highest_of, is_marked, sort_in, term_in, variant_entry, variant_in}
+use Rattle.std.specs.Option.{unwrap_or}
+use Rattle.std.specs.Prelude.{is_none}
+use Rattle.std.specs.declared.option.Option.{Option}
+use Rattle.std.specs.declared.option.Option.TheVariants.{None, Some}
+use Rattle.loops.specs.Lowest.{Finds, SomePassing, lowest}
+use Rattle.loops.proofs.Loops.{lowest-here, lowest_nowhere, some_passes}
+use Rattle.plans.specs.Chosen.{held_at, held_in, higher_at, highest_below, highest_of, is_marked, is_member, sort_in, term_in, variant_entry, variant_in}
 use Rattle.plans.specs.Fresh.{next_fresh, taken, taken_at}
 
 -- ---- ranks
@@ -52,44 +49,35 @@ module _ (marks ranks : List ℕ) where
   unfolding highest_of
   highest-all c most h e = e ∙ ap (highest_below marks ranks) h
 
+-- ---- what a search finds, as a number
+
+module _ (p : ℕ → Bool) (n : ℕ) (r : Option ℕ) (found : Finds p n r) where
+  pub finds_none : is_none r ≡ leb n (lowest p n)
+  finds_none = none r found
+    where
+      none : (r : Option ℕ) → Finds p n r → is_none r ≡ leb n (lowest p n)
+      none None e = sym (le-leb n (lowest p n) (omega (arith, e)))
+      none (Some k) e = sym (lt-leb n (lowest p n) (omega (arith, e.0, e.1)))
+
+  pub found_or : unwrap_or r n ≡ lowest p n
+  found_or = found_at r found
+    where
+      found_at : (r : Option ℕ) → Finds p n r → unwrap_or r n ≡ lowest p n
+      found_at None e = sym e
+      found_at (Some k) e = e.1
+
 -- ---- types
 
-pub sort-there : (classes sorts : List ℕ) (c y : ℕ) → y ≡ term_in classes sorts c → get_or sorts y 0 ≡ sort_in classes sorts c
-unfolding sort_in
-sort-there classes sorts c y e = ap (λ (k : ℕ). get_or sorts k 0) e
+module _ (classes sorts : List ℕ) (c : ℕ) (r : Option ℕ) (found : Finds (is_member classes sorts c) 78 r) where
+  pub member_low : unwrap_or r 78 < 96
+  unfolding lowest
+  member_low = omega (arith, found_or (is_member classes sorts c) 78 r found, least_most (is_member classes sorts c) 78)
 
--- ---- free classes
-
-module _ (shapes sorts fieldless constants marks : List ℕ) (s : State) (c : ℕ) where
-  pub free_unmarked : ¬ (get_or marks c 0 ≡ 0) → false ≡ free_at shapes sorts fieldless constants marks s c
-  unfolding free_at is_marked
-  free_unmarked n = no_and _ (ne_eqb _ _ n)
-
-  pub free-shape : (k : ℕ) → k ≡ shape_of shapes s c → k < 30 → false ≡ free_at shapes sorts fieldless constants marks s c
-  unfolding free_at
-  free-shape k e h = and_no (is_marked marks c) (sym (no_and _ (lt-leb 30 (shape_of shapes s c) (omega (arith, e)))))
-
-  pub free-constant : (k : ℕ) → k ≡ constant_of constants s.classes c → k < 30 → false ≡ free_at shapes sorts fieldless constants marks s c
-  unfolding free_at
-  free-constant k e h = and_no (is_marked marks c) (sym (and_no (leb 30 (shape_of shapes s c)) (sym (no_and _ (lt-leb 30 (constant_of constants s.classes c) (omega (arith, e)))))))
-
-  pub free_else : (k j y : ℕ) → get_or marks c 0 ≡ 0 → k ≡ shape_of shapes s c → 30 ≤ k → j ≡ constant_of constants s.classes c → 30 ≤ j → y ≡ single_of sorts fieldless s c
-      → leb 78 y ≡ free_at shapes sorts fieldless constants marks s c
-  unfolding free_at is_marked
-  free_else k j y m ek hk ej hj ey =
-      ap (leb 78) ey ∙ yes_and _ (le-leb 30 (constant_of constants s.classes c) (omega (arith, ej))) ∙ yes_and _ (le-leb 30 (shape_of shapes s c) (omega (arith, ek)))
-      ∙ yes_and _ (eq-eqb (get_or marks c 0) 0 m)
+  pub sort_there : get_or sorts (unwrap_or r 78) 0 ≡ sort_in classes sorts c
+  unfolding sort_in term_in
+  sort_there = ap (λ (k : ℕ). get_or sorts k 0) (found_or (is_member classes sorts c) 78 r found)
 
 -- ---- variants
-
-module _ (arities : List ℕ) (start label v : ℕ) where
-  pub held-lacks : (b : Bool) → b ≡ eqb (bit label v) 0 → b ≡ true → false ≡ held_at arities start label v
-  unfolding held_at
-  held-lacks b e q = no_and _ (ap not (sym e ∙ q))
-
-  pub held-fields : (b : Bool) → b ≡ eqb (bit label v) 0 → b ≡ false → ltb 0 (get_or arities (start + v) 0) ≡ held_at arities start label v
-  unfolding held_at
-  held-fields b e q = yes_and _ (ap not (sym e ∙ q))
 
 -- searches for what passes tests that agree below n
 lowest-agree : (p q : ℕ → Bool) (n : ℕ) → ((k : ℕ) → k < n → p k ≡ q k) → lowest p n ≡ lowest q n
@@ -109,27 +97,38 @@ variant-entry table label t h =
     (get_or table.variants t 0) (λ v l. ap (λ (n : ℕ). not (eqb (bit label v) 0) && ltb 0 n) (sym (held-arity table t h v l)))
     ∙ ap (lowest (λ v. not (eqb (bit label v) 0) && ltb 0 (length (fields_of (types_of table) t v)))) (sym (held-variants table t h))
 
+-- the variants of a type have places
+module _ (table : TypeTable) (t v : ℕ) (range : TypesInRange table) (h : v < get_or table.variants t 0) where
+  pub place_fits : get_or table.first t 0 + v < 48
+  place_fits = omega (arith, range.first t, h)
+
+  pub variant_fits : v < 16
+  variant_fits = omega (arith, range.variants t, h)
+
+module _ (table : TypeTable) (label t : ℕ) (h : t < table.many) (r : Option ℕ) (found : Finds (held_at table.arities (get_or table.first t 0) label) (get_or table.variants t 0) r) where
+  pub variant_small : TypesInRange table → unwrap_or r (get_or table.variants t 0) ≤ 16
+  unfolding lowest
+  variant_small range = omega (arith, found_or (held_at table.arities (get_or table.first t 0) label) (get_or table.variants t 0) r found, least_most (held_at table.arities (get_or table.first t 0) label) (get_or table.variants t 0), range.variants t)
+
+  pub variant_found : unwrap_or r (get_or table.variants t 0) ≡ variant_in (types_of table) label t
+  unfolding variant_entry
+  variant_found = found_or (held_at table.arities (get_or table.first t 0) label) (get_or table.variants t 0) r found ∙ variant-entry table label t h
+
 -- ---- fresh numbers
 
 module _ (constants : List ℕ) (values : List ℤ) where
-  module _ (z k : ℕ) where
-    pub no-constant-there : get_or constants k 0 ≡ 0 → false ≡ taken_at constants values z k
-    unfolding taken_at
-    no-constant-there e = no_and _ (ap not (eq-eqb _ _ e))
-
-    pub constant-there : ¬ (get_or constants k 0 ≡ 0) → (v : ℤ) → v ≡ constant_value values k → SFits w64 v → z < 65536 → eqb (of_z w64 v) z ≡ taken_at constants values z k
-    unfolding taken_at
-    constant-there n v e f h = same_bits v (pos z) f (record { sfits = omega arith }) ∙ ap (λ (w : ℤ). eq_z w (pos z)) e ∙ yes_and _ (ap not (ne_eqb _ _ n))
+  pub taken_passes : (z : ℕ) (post : ℕ → Bool → Type 0) (r : Bool) → ((k : ℕ) (b : Bool) → k < 30 → post k b → b ≡ taken_at constants values z k) → SomePassing post 30 r → r ≡ taken constants values z
+  unfolding taken
+  taken_passes z post r same e = some_passes (taken_at constants values z) post 30 r same e
 
   abbrev pub untaken : ℕ → ℕ → Bool
   untaken first k = not (taken constants values (first + k))
 
-  module _ (last first : ℕ) (next : first ≡ last + 1) where
-    pub fresh-here : (k : ℕ) → k < 30 → NoneBelow (untaken first) k → untaken first k ≡ true → first + k ≡ next_fresh constants values last
-    unfolding next_fresh
-    fresh-here k h none e =
-        ap (λ (j : ℕ). first + j) (lowest-here (untaken first) 30 k h none e) ∙ ap (λ (f : ℕ). f + lowest (untaken f) 30) (next ∙ add-one last)
+  module _ (last : ℕ) (r : Option ℕ) (found : Finds (untaken (last + 1)) 30 r) where
+    pub fresh_few : unwrap_or r 30 ≤ 30
+    unfolding lowest
+    fresh_few = omega (arith, found_or (untaken (last + 1)) 30 r found, least_most (untaken (last + 1)) 30)
 
-    pub fresh-past : (k : ℕ) → 30 ≤ k → NoneBelow (untaken first) k → first + 30 ≡ next_fresh constants values last
+    pub fresh_found : last + 1 + unwrap_or r 30 ≡ next_fresh constants values last
     unfolding next_fresh
-    fresh-past k h none = ap (λ (j : ℕ). first + j) (lowest_nowhere (untaken first) 30 k h none) ∙ ap (λ (f : ℕ). f + lowest (untaken f) 30) (next ∙ add-one last)
+    fresh_found = ap (λ (j : ℕ). last + 1 + j) (found_or (untaken (last + 1)) 30 r found) ∙ ap (λ (f : ℕ). f + lowest (untaken f) 30) (add-one last)

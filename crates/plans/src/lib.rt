@@ -3,154 +3,114 @@
 
 ghost use Rattle.std.specs.Prelude.{◌≡◌, ◌<◌, ◌≤◌, ◌+◌, get_or};
 ghost use Rattle.tables.specs.Layout.{TypesInRange, types_of};
-ghost use Rattle.classes.specs.Held.{Held, state};
-ghost use Rattle.arrays.specs.Slots.{ShapesFit, SortsFit};
-ghost use Rattle.plans.specs.Chosen.{free_at, held_at, higher_at, highest_of, is_member, sort_in, term_in, variant_entry, variant_in};
+ghost use Rattle.loops.specs.Lowest.{Finds};
+ghost use Rattle.plans.specs.Chosen.{free_at, held_at, higher_at, highest_of, is_member, sort_in, variant_in};
 ghost use Rattle.plans.specs.Fresh.{next_fresh, taken, taken_at};
 
+use classes::State;
+use constants::Constants;
+use labelled::Sorts;
+use slots::Shapes;
 use tables::TypeTable;
+use unlikeconstants::first_constant;
 
 // ---- types
 
-fn is_member(classes: &[u8; 96], sorts: &[u8; 96], c: u8, y: u8) -> bool
+#[tactic(auto, unfolding(crate::specs::Chosen::is_member))]
+fn is_member(state: &State, sorts: &Sorts, c: u8, y: usize) -> bool
     requires { y < 78 }
-    ensures { result ≡ is_member classes.now sorts.now c y }
+    ensures { result ≡ is_member state.now.classes sorts.now.sorts c y }
 {
-    if sorts[y as usize] == 0 {
-        return false;
-    }
-    classes::class_of(classes, y) == c
+    sorts.sorts[y] != 0 && state.class_of(y as u8) == c
 }
 
-// The lowest term of class `c`; 78 if there is none.
-fn term_in(classes: &[u8; 96], sorts: &[u8; 96], c: u8) -> u8
-    ensures value { result ≡ term_in classes.now sorts.now c }
-    ensures upper_bound { result ≤ 78 }
+// The lowest term of class `c`.
+#[tactic(auto, using(loops::proofs::Loops::finds))]
+fn term_in(state: &State, sorts: &Sorts, c: u8) -> Option<usize>
+    ensures { Finds (is_member state.now.classes sorts.now.sorts c) 78 result }
 {
-    for y in 0..78 {
-        if is_member(classes, sorts, c, y) {
-            return y;
-        }
-    }
-    78
+    loops::lowest(78, |y| is_member(state, sorts, c, y))
 }
 
 // The type of class `c`, plus one.
-pub fn sort_for(classes: &[u8; 96], sorts: &[u8; 96], c: u8) -> u8
-    ensures { result ≡ sort_in classes.now sorts.now c }
+#[tactic(auto, using(crate::proofs::CodeTests::member_low, crate::proofs::CodeTests::sort_there))]
+pub fn sort_for(state: &State, sorts: &Sorts, c: u8) -> u8
+    ensures { result ≡ sort_in state.now.classes sorts.now.sorts c }
 {
-    let y = term_in(classes, sorts, c);
-    sorts[y as usize]
+    sorts.sorts[term_in(state, sorts, c).unwrap_or(78)]
 }
 
 // ---- free classes
 
 // Whether class `c` gets a message, and nothing fixes it.
+#[tactic(auto, using(crate::proofs::CodeTests::finds_none), unfolding(crate::specs::Chosen::free_at, crate::specs::Chosen::is_marked, kinds::specs::Found::shape_of, kinds::specs::Found::constant_of, kinds::specs::Found::single_of))]
 pub fn is_free(
-    classes: &[u8; 96],
-    labels: &[u16; 96],
-    shapes: &[u16; 256],
-    sorts: &[u8; 96],
-    fieldless: &[u16; 8],
-    constants: &[u8; 32],
+    state: &State,
+    shapes: &Shapes,
+    sorts: &Sorts,
+    constants: &Constants,
     marks: &[u8; 96],
     c: u8,
 ) -> bool
-    requires c_bound { c < 96 }
-    requires held { Held classes.now }
-    requires shapes_fit { ShapesFit shapes.now }
-    requires sorts_fit { SortsFit sorts.now }
-    ensures { result ≡ free_at shapes.now sorts.now fieldless.now constants.now marks.now (state classes.now labels.now) c }
+    requires { c < 96 }
+    ensures { result ≡ free_at shapes.now.slots sorts.now.sorts sorts.now.fieldless constants.now.sorts marks.now state.now c }
 {
-    if marks[c as usize] != 0 {
-        return false;
-    }
-    if kinds::shape_of(classes, labels, shapes, c) < 30 {
-        return false;
-    }
-    if kinds::constant_of(classes, constants, c) < 30 {
-        return false;
-    }
-    kinds::single_of(classes, labels, sorts, fieldless, c) >= 78
+    marks[c as usize] == 0
+        && kinds::shape_of(state, shapes, c).is_none()
+        && first_constant(state, constants, c).is_none()
+        && kinds::single_of(state, sorts, c).is_none()
 }
 
 // ---- variants
 
-fn is_held(arities: &[u8; 48], start: u8, label: u16, v: u8) -> bool
-    requires { (v < 16) × (start + v < 48) }
-    ensures { result ≡ held_at arities.now start label v }
-{
-    if labels::lacks(label, v as u32) {
-        return false;
-    }
-    0 < arities[start as usize + v as usize]
-}
-
-// The lowest variant of type `t` with fields in the label; the number of variants if there is none.
-pub fn variant_in(variants: &[u8; 6], first: &[u8; 6], arities: &[u8; 48], label: u16, t: u8) -> u8
+#[tactic(auto, unfolding(crate::specs::Chosen::held_at))]
+fn is_held(table: &TypeTable, label: u16, t: u8, v: usize) -> bool
     requires t_bound { t < 6 }
-    requires t_bound_2 { get_or variants.now t 0 ≤ 16 }
-    requires t_bound_3 { get_or first.now t 0 + get_or variants.now t 0 ≤ 48 }
-    ensures { result ≡ variant_entry variants.now first.now arities.now label t }
+    requires v_bound { v < 16 }
+    requires place_bound { get_or table.now.first t 0 + v < 48 }
+    ensures { result ≡ held_at table.now.arities (get_or table.now.first t 0) label v }
 {
-    let many = variants[t as usize];
-    let start = first[t as usize];
-    for v in 0..many {
-        if is_held(arities, start, label, v) {
-            return v;
-        }
-    }
-    many
+    !labels::lacks(label, v as u32) && 0 < table.arities[table.first[t as usize] as usize + v]
 }
 
-// The same for a type of the table.
-pub fn variant_for(table: TypeTable, label: u16, t: u8) -> u8
-    requires types_in_range { TypesInRange table }
-    requires t_lt_many { t < table.many }
-    ensures { result ≡ variant_in (types_of table) label t }
+// The lowest variant of type `t` with fields in the label; the number of variants if there is none, as the definition has it.
+#[tactic(auto, using(loops::proofs::Loops::finds, crate::proofs::CodeTests::place_fits, crate::proofs::CodeTests::variant_fits, crate::proofs::CodeTests::variant_small, crate::proofs::CodeTests::variant_found))]
+pub fn variant_for(table: &TypeTable, label: u16, t: u8) -> u8
+    requires types_in_range { TypesInRange table.now }
+    requires t_lt_many { t < table.now.many }
+    ensures { result ≡ variant_in (types_of table.now) label t }
 {
-    let variants = table.variants;
-    let first = table.first;
-    let arities = table.arities;
-    variant_in(&variants, &first, &arities, label, t)
+    let many = table.variants[t as usize] as usize;
+    loops::lowest(many, |v| is_held(table, label, t, v)).unwrap_or(many) as u8
 }
 
 // ---- fresh numbers
 
-fn is_taken_at(constants: &[u8; 32], values: &[i64; 24], z: u32, k: usize) -> bool
+#[tactic(auto, using(constants::proofs::ConstantTests::same_bits), unfolding(crate::specs::Fresh::taken_at))]
+fn is_taken_at(constants: &Constants, z: u32, k: usize) -> bool
     requires { (k < 30) × (z < 65536) }
-    ensures { result ≡ taken_at constants.now values.now z k }
+    ensures { result ≡ taken_at constants.now.sorts constants.now.values z k }
 {
-    if constants[k] == 0 {
-        return false;
-    }
-    constants::constant_value(values, k) == z as i64
+    constants.sort(k) != 0 && constants.value(k) == z as i64
 }
 
-fn is_taken(constants: &[u8; 32], values: &[i64; 24], z: u32) -> bool
+#[tactic(auto, using(crate::proofs::CodeTests::taken_passes))]
+fn is_taken(constants: &Constants, z: u32) -> bool
     requires { z < 65536 }
-    ensures { result ≡ taken constants.now values.now z }
+    ensures { result ≡ taken constants.now.sorts constants.now.values z }
 {
-    for k in 0..30 {
-        if is_taken_at(constants, values, z, k) {
-            return true;
-        }
-    }
-    false
+    loops::any(30, |k| is_taken_at(constants, z, k))
 }
 
 // The lowest number above `last` that no constant has.
-pub fn next_fresh(constants: &[u8; 32], values: &[i64; 24], last: u32) -> u32
+#[tactic(auto, using(loops::proofs::Loops::finds, crate::proofs::CodeTests::fresh_few, crate::proofs::CodeTests::fresh_found))]
+pub fn next_fresh(constants: &Constants, last: u32) -> u32
     requires { last ≤ 4096 }
-    ensures { result ≡ next_fresh constants.now values.now last }
+    ensures { result ≡ next_fresh constants.now.sorts constants.now.values last }
 {
     let first = last + 1;
-    for k in 0..30 {
-        if !is_taken(constants, values, first + k) {
-            return first + k;
-        }
-    }
-    first + 30
+    let past = loops::lowest(30, |k| !is_taken(constants, first + k as u32)).unwrap_or(30);
+    first + past as u32
 }
 
 // ---- ranks

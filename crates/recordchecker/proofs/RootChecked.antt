@@ -1,13 +1,12 @@
 -- From the root to the whole check: the root begins, the record ends with the last branch, the file's questions come first.
 -- Assumes nothing.
 use mathlib.Core.Path.{◌≡◌, refl, ap, sym, subst, ◌∙◌}
-use mathlib.Core.List.{List, [], ◌∷◌, foldl}
+use mathlib.Core.List.{List, [], ◌∷◌}
 use Rattle.std.proofs.Common.{Result, Ok, Err}
 use Prim.Native.Nat.{ℕ, ◌≤◌, ◌<◌}
 use native.Mathlib.Omega.{arith}
 use lib.ListN.{length, drop, length-drop}
 use Rattle.laws.proofs.Lists.{length-nil}
-use Rattle.guard.specs.Closure.{State, add}
 use Rattle.guard.specs.Guard.{Guard}
 use Rattle.guard.specs.File.{file}
 use Rattle.guard.specs.Limits.{base}
@@ -16,14 +15,12 @@ use Rattle.guard.specs.Question.{number_of}
 use Rattle.guard.specs.declared.Question.{Question}
 use Rattle.guard.specs.declared.Question.TheVariants.{ShortBuffer, Truncated, Malformed, TooMany, UnknownName, UnknownKind, TypeMismatch, NoDefault, NoInfiniteField, TrailingBytes, RecordTooLong, FalseEntry, RecordEnd, FileTooLong, TypesDiffer, VariablesDiffer, TwoNumberTypes, BranchCount}
 use Rattle.guard.proofs.Claims.{accepts-all, base-supported}
-use Rattle.guard.proofs.ClosureEnds.{first}
 use Rattle.reader.specs.declared.Tables.{Tables}
 use Rattle.reader.specs.Reader.{guard_tables, in_tables}
 use Rattle.numbers.specs.Reader.{ReadsAll}
-use Rattle.problem.specs.declared.Problem.{Problem}
-use Rattle.problem.specs.Columns.{problem_by}
 use Rattle.search.specs.Nodes.{Accepted}
-use Rattle.roots.proofs.RootLaws.{arrays_of, given_in, root_begun}
+use Rattle.roots.specs.declared.Root.{Root}
+use Rattle.roots.specs.Roots.{IsRoot}
 use Rattle.reader.proofs.TablesRead.{Taken, refused-file, taken-file}
 use Rattle.roots.proofs.TablesRead.{guard-accepted}
 use Rattle.refutations.specs.Checker.{check, checked, no_more}
@@ -33,11 +30,9 @@ use Rattle.recordchecker.specs.Checks.{ChecksRoot, ChecksTables, answer}
 
 -- ---- the root
 
-pub root-checked : (tables : Tables) (p : Problem) → p ≡ problem_by tables → (bytes : List ℕ) (r : Result ℕ Question) (s : State) → s ≡ foldl add (first 96) (given_in tables p)
-    → Checks p.shapes p.reads p.sorts p.full p.fieldless p.constants tables.rows.values tables.literals.kinds tables.literals.terms tables.literals.others tables.literals.many bytes 0 s r
-    → ChecksRoot tables bytes r
+pub root_checked : (tables : Tables) (root : Root) (bytes : List ℕ) (r : Result ℕ Question) → IsRoot tables root → Checks root.instance root.reads.slots bytes 0 root.state r → ChecksRoot tables bytes r
 unfolding Checks ChecksRoot
-root-checked tables p ep bytes r s es h g ok is = h g g.literals ok (arrays_of tables p ep g ok is) (root_begun tables p ep g ok is s es)
+root_checked tables root bytes r is h g ok q = h g g.literals ok (is.arrays g ok q) (is.begun g ok q)
 
 -- ---- the end of the record
 

@@ -1,5 +1,5 @@
 -- What is asked and put on the way from cells to a restored file. Assumes nothing: definitions.
-use Rattle.std.specs.Prelude.{◌≡◌, true, List, ◌++◌, ℕ, ◌≤◌, ◌<◌, drop, length, Result, Ok, Err}
+use Rattle.std.specs.Prelude.{◌≡◌, true, Option, List, ◌++◌, ℕ, ◌≤◌, ◌<◌, drop, length, Result, Ok, Err}
 use Rattle.laws.specs.All.{All}
 use Rattle.guard.specs.File.{file, literal}
 use Rattle.guard.specs.Guard.{Guard, Row}
@@ -13,7 +13,6 @@ use Rattle.tables.specs.declared.TypeTable.{TypeTable}
 use Rattle.merged.specs.Merge.{type_part}
 use Rattle.rowreader.specs.RowReader.{counted_rows}
 use Rattle.literalreader.specs.LiteralReader.{literals_by}
-use Rattle.bytebuffer.specs.declared.End.{End}
 use Rattle.bytebuffer.specs.Puts.{Puts}
 use Rattle.filewriter.specs.Writer.{Answered, answer_to, left_by}
 use Rattle.columnfile.specs.Columns.{columns, number_in, restored_head, restored_rows}
@@ -75,8 +74,8 @@ Asks table rows rest (Err q) = (ts : Types) → TypesTaken table ts → asked_of
 
 -- ---- what is put
 
-pub record PutsRestored (table : TypeTable) (rows rest out : List ℕ) (end : End) (out' : List ℕ) : Type 0 where
-  pub puts : (ts : Types) → TypesTaken table ts → Puts (type_part ts ++ (rows ++ rest)) out 0 end out'
+pub record PutsRestored (table : TypeTable) (rows rest out : List ℕ) (result : Option ℕ) (out' : List ℕ) : Type 0 where
+  pub puts : (ts : Types) → TypesTaken table ts → Puts (type_part ts ++ (rows ++ rest)) out 0 result out'
 
 -- ---- from cells
 

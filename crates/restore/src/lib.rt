@@ -8,7 +8,7 @@ ghost use Rattle.filewriter.specs.Writer.{Answered, answer_to, left_by};
 ghost use Rattle.columnfile.specs.Columns.{restored_file};
 ghost use Rattle.restore.specs.Restoring.{AnswersRestored, Asks, HeadSays, PutsRestored, Restorable, SomeTypes};
 
-use bytebuffer::End;
+use bytebuffer::Writer;
 use datatypes::type_facts;
 use guard::Question;
 use literalreader::read_literals;
@@ -54,19 +54,15 @@ fn asked(rows: &[u8], stored: &[u8], at: usize, table: TypeTable) -> Result<(), 
 }
 
 // The restored file, from the start of the buffer on.
-fn put_restored(table: TypeTable, rows: &[u8], rest: &[u8], out: &mut [u8]) -> End
-    requires { SomeTypes table }
-    ensures { PutsRestored table rows.now rest.now out.old result out.new }
+fn put_restored(types: &TypeTable, rows: &[u8], rest: &[u8], out: &mut [u8]) -> Option<usize>
+    requires { SomeTypes types.now }
+    ensures { PutsRestored types.now rows.now rest.now out.old result out.new }
 {
-    let typed = typewriter::put_types(table, out, 0);
-    if !typed.fits {
-        return typed;
-    }
-    let end = restoredrows::put_bytes(rows, out, typed.at);
-    if !end.fits {
-        return end;
-    }
-    restoredrows::put_bytes(rest, out, end.at)
+    let mut writer = Writer::new(out);
+    typewriter::put_types(types, &mut writer)?;
+    writer.put(rows)?;
+    writer.put(rest)?;
+    Some(writer.at)
 }
 
 // The file restored from cells and what stands behind the columns, in a buffer of zeros. Of 24 rows with six numbers of up to ten
@@ -74,26 +70,24 @@ fn put_restored(table: TypeTable, rows: &[u8], rest: &[u8], out: &mut [u8]) -> E
 fn restore_rows(
     stored: &[u8],
     at: usize,
-    table: TypeTable,
+    types: &TypeTable,
     n: usize,
     cells: &[u64; 144],
     out: &mut [u8],
 ) -> Result<usize, Question>
-    requires restorable { Restorable table n cells.now }
+    requires restorable { Restorable types.now n cells.now }
     requires at_in_bounds { at ≤ length stored.now }
     requires out_value { out.old ≡ replicate (length out.old) 0 }
-    ensures { AnswersRestored table n cells.now (drop at stored.now) out.old result out.new }
+    ensures { AnswersRestored types.now n cells.now (drop at stored.now) out.old result out.new }
 {
     let mut rows = [0u8; 1536];
-    let end = restoredrows::put_rows(table, cells, n, &mut rows);
-    let many = end.at;
-    asked(&rows[..many], stored, at, table)?;
-    let put = put_restored(table, &rows[..many], &stored[at..], out);
-    if !put.fits {
+    let many = restoredrows::put_rows(types, cells, n, &mut rows).unwrap();
+    asked(&rows[..many], stored, at, *types)?;
+    let Some(end) = put_restored(types, &rows[..many], &stored[at..], out) else {
         bytebuffer::clear(out);
         return Err(Question::FileTooLong);
-    }
-    Ok(put.at)
+    };
+    Ok(end)
 }
 
 // The file that these bytes are stored of, and zeros behind it: how many bytes it has; or the first question that gets a no, and nothing but
@@ -107,5 +101,5 @@ pub fn restore(stored: &[u8], out: &mut [u8]) -> Result<usize, Question>
     let table = h.table;
     let mut cells = [0u64; 144];
     let next = columnreader::read_columns(stored, h.at, table, h.rows, &mut cells)?;
-    restore_rows(stored, next, table, h.rows, &cells, out)
+    restore_rows(stored, next, &table, h.rows, &cells, out)
 }

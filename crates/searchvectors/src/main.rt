@@ -2,8 +2,8 @@
 // verdict with the node count and the splits of either kind.
 #![tactic(auto)]
 
-use reader::Tables;
-use tallies::{Outcome, Tally};
+use rootsearch::Found;
+use tallies::Tally;
 
 fn print_line(name: &[u8], value: u32) {
     io::write_all(1, name);
@@ -19,11 +19,11 @@ fn print_counts(name: &[u8], nodes: u32, t: Tally) {
     print_line(b" ", t.second);
 }
 
-fn print_outcome(budget: u32, o: Outcome) {
-    match o {
-        Outcome::Open(t) => print_counts(b"SAT ", budget.saturating_sub(t.left), t),
-        Outcome::Closed(t) => print_counts(b"UNSAT ", budget.saturating_sub(t.left), t),
-        Outcome::Spent(t) => print_counts(b"SPENT ", budget, t),
+fn print_found(budget: u32, found: Found) {
+    match found {
+        Found::Open(_, t) => print_counts(b"SAT ", budget.saturating_sub(t.left), t),
+        Found::Closed(t) => print_counts(b"UNSAT ", budget.saturating_sub(t.left), t),
+        Found::Spent(t) => print_counts(b"SPENT ", budget, t),
     }
 }
 
@@ -32,10 +32,7 @@ fn answer(file: &[u8], budget: u32) {
     match reader::read(file, 6, 24, 32) {
         Ok(t) => {
             let problem = problem::problem_of(t);
-            let mut classes = [0u8; 96];
-            let mut labels = [0u16; 96];
-            let o = rootsearch::search_guard(t, problem, budget, &mut classes, &mut labels);
-            print_outcome(budget, o);
+            print_found(budget, rootsearch::search_guard(&t, &problem, budget));
         }
         Err(q) => print_line(b"REFUSED ", q.number()),
     }

@@ -84,6 +84,7 @@ pub fn pass_singles<F: Fn(&State, u8) -> bool>(
     requires { (s : _) (x : _) → x < 78 → F.pre stops s x }
     ensures { PassOrStop (singles_due sorts.now.sorts sorts.now.fieldless) (StopsBy (F.post stops)) state.old state.new result }
 {
+    // 255 where none was met yet. With an `Option` in each place, which is two bytes, a closure took a third longer.
     let mut seen = [255u8; 112];
     let mut changed = false;
     let listed = sorts.labelled();

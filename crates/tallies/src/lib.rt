@@ -24,20 +24,14 @@ pub enum Outcome {
 pub fn is_closed(o: Outcome) -> bool
     ensures { result ≡ is_closed_outcome o }
 {
-    match o {
-        Outcome::Open(t) => false,
-        Outcome::Closed(t) => true,
-        Outcome::Spent(t) => false,
-    }
+    matches!(o, Outcome::Closed(_))
 }
 
 pub fn tally_of(o: Outcome) -> Tally
     ensures { result ≡ tally_of o }
 {
     match o {
-        Outcome::Open(t) => t,
-        Outcome::Closed(t) => t,
-        Outcome::Spent(t) => t,
+        Outcome::Open(t) | Outcome::Closed(t) | Outcome::Spent(t) => t,
     }
 }
 

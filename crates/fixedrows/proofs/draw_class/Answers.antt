@@ -10,10 +10,9 @@ pub fixed_row-d-requires : goal.fixed_row-d-requires
 fixed_row-d-requires c = let a = c.args in
     let d = c.requires.due_now in
     record {
-      leaf_fits = c.requires.leaf_fits;
-      at_low = due-low a.leaf a.at.now a.rows.now a.many d.rank a.c c.requires.c_bound d.staged d.due;
-      many_bound = due-few a.leaf a.at.now a.rows.now a.many d.rank a.c c.requires.c_bound d.staged d.due;
-      many_in_bounds = due-long a.leaf a.at.now a.rows.now a.many d.rank a.c c.requires.c_bound d.staged d.due;
+      at_low = due-low a.leaf.now a.at.now a.rows.now a.many d.rank a.c c.requires.c_bound d.staged d.due;
+      many_bound = due-few a.leaf.now a.at.now a.rows.now a.many d.rank a.c c.requires.c_bound d.staged d.due;
+      many_in_bounds = due-long a.leaf.now a.at.now a.rows.now a.many d.rank a.c c.requires.c_bound d.staged d.due;
     }
 
 -- the row is below 4,096, so one more fits
@@ -21,13 +20,13 @@ pub overflow_add-at : goal.overflow_add-at
 overflow_add-at c = let a = c.args in
     let d = c.requires.due_now in
     let f = c.fixed_row-d in
-    record { fits = omega (arith, row_small a.leaf a.at.now a.rows.now a.many d.rank a.c c.requires.c_bound d.due f.new.rows f.result.many f.result.row f.ensures d.staged, due-few a.leaf a.at.now a.rows.now a.many d.rank a.c c.requires.c_bound d.staged d.due) }
+    record { fits = omega (arith, row_small a.leaf.now a.at.now a.rows.now a.many d.rank a.c c.requires.c_bound d.due f.new.rows f.result.many f.result.row f.ensures d.staged, due-few a.leaf.now a.at.now a.rows.now a.many d.rank a.c c.requires.c_bound d.staged d.due) }
 
 pub overflow_cast-at : goal.overflow_cast-at
 overflow_cast-at c = let a = c.args in
     let d = c.requires.due_now in
     let f = c.fixed_row-d in
-    record { fits = omega (arith, row_small a.leaf a.at.now a.rows.now a.many d.rank a.c c.requires.c_bound d.due f.new.rows f.result.many f.result.row f.ensures d.staged, due-few a.leaf a.at.now a.rows.now a.many d.rank a.c c.requires.c_bound d.staged d.due) }
+    record { fits = omega (arith, row_small a.leaf.now a.at.now a.rows.now a.many d.rank a.c c.requires.c_bound d.due f.new.rows f.result.many f.result.row f.ensures d.staged, due-few a.leaf.now a.at.now a.rows.now a.many d.rank a.c c.requires.c_bound d.staged d.due) }
 
 pub returns : goal.returns
 returns c = let d = c.fixed_row-d in

@@ -15,7 +15,7 @@ use Rattle.freerows.proofs.ended_planned.Goals as goal
 pub overflow_cast-z : goal.overflow_cast-z
 overflow_cast-z c = let a = c.args in
     let z = c.next_fresh-z in
-    fresh-fits a.leaf.constants a.leaf.values a.last z.result c.requires.last_bound z.ensures
+    fresh-fits a.leaf.now.constants.sorts a.leaf.now.constants.values a.last z.result c.requires.last_bound z.ensures
 
 pub ended_row-d-requires : goal.ended_row-d-requires
 ended_row-d-requires c = record {
@@ -30,8 +30,8 @@ pub returns : goal.returns
 returns c = let a = c.args in
     let z = c.next_fresh-z in
     let d = c.ended_row-d in
-    let ts = types_in a.forms in
-    let same : to_z w64 z.result ≡ pos z.result = fresh-number a.leaf.constants a.leaf.values a.last z.result c.requires.last_bound z.ensures in
+    let ts = types_in a.forms.now in
+    let same : to_z w64 z.result ≡ pos z.result = fresh-number a.leaf.now.constants.sorts a.leaf.now.constants.values a.last z.result c.requires.last_bound z.ensures in
     record {
       last_value = z.ensures;
       drew = subst (λ (y : ℤ). Drew ts a.rows.now a.many a.drawn.now (3 * length ts - 1) (planned_message ts a.t (into a.v (steps_to_number ts (chosen_type ts a.t a.v)) y)) d.new.rows d.result.many d.new.drawn d.result.row) same d.ensures;

@@ -13,36 +13,29 @@ use Rattle.freerows.proofs.free_rows.Goals.{then-is_free, else-is_free}
 
 pub loop-c-init : goal.loop-c-init
 loop-c-init c = let a = c.args in
-    (grown-itself a.rows.now 0, stage-start (open_state (types_in a.forms) a.leaf) a.at.now c.requires.blank a.rows.now c.requires.enough (0 ∷ 0 ∷ 0 ∷ 0 ∷ 0 ∷ 0 ∷ []) refl six_zeros)
+    (grown-itself a.rows.now 0, stage-start (open_state (types_in a.forms.now) a.leaf.now) a.at.now c.requires.blank a.rows.now c.requires.enough (0 ∷ 0 ∷ 0 ∷ 0 ∷ 0 ∷ 0 ∷ []) refl six_zeros)
 
 pub is_free-requires : goal.is_free-requires
-is_free-requires c = let f = c.requires.leaf_fits in
-    record {
-      c_bound = omega (arith, c.loop-c-test.true);
-      held = f.held;
-      shapes_fit = f.shapes_fit;
-      sorts_fit = f.sorts_fit;
-    }
+is_free-requires c = omega (arith, c.loop-c-test.true)
 
 pub draw_free-d-requires : goal.draw_free-d-requires
 draw_free-d-requires c = let a = c.args in
     let l = c.loop-c in
     record {
       c_bound = omega (arith, c.loop-c-test.true);
-      leaf_fits = c.requires.leaf_fits;
       forms_fit = c.requires.forms_fit;
       free_fits = c.requires.free_fits;
       most_value = c.requires.most_value;
       free_stage = l.invariant.1;
-      c_value = free-read (types_in a.forms) a.leaf l.c ∙ sym c.is_free.ensures ∙ c.if-is_free.true;
+      c_value = free-read (types_in a.forms.now) a.leaf.now l.c ∙ sym c.is_free.ensures ∙ c.if-is_free.true;
     }
 
 pub loop-c-preserved : goal.loop-c-preserved
 loop-c-preserved c = let a = c.args in
     let l = c.loop-c in
     let m = c.if-is_free in
-    let ts = types_in a.forms in
-    let x = open_state ts a.leaf in
+    let ts = types_in a.forms.now in
+    let x = open_state ts a.leaf.now in
     let step : Reached x (suc l.c) a.rows.now m.at m.rows m.many m.drawn m.tops m.last =
     elim m.branch [
       | then-is_free w ↦
@@ -51,7 +44,7 @@ loop-c-preserved c = let a = c.args in
           (grown_twice a.rows.now 0 l.rows l.many d.new.rows d.result.many l.invariant.0 d.ensures.grown, d.ensures.free_stage_2)
       | else-is_free w ↦
           reached_as x (suc l.c) a.rows.now l.at m.at l.rows m.rows l.many m.many l.drawn m.drawn l.tops m.tops l.last m.last w.at-is w.rows-is w.drawn-is w.tops-is w.many-is w.last-is
-          (l.invariant.0, stage_skip x l.c (omega (arith, c.loop-c-test.true)) l.at l.rows l.many l.drawn l.tops l.last l.invariant.1 (free-read ts a.leaf l.c ∙ sym c.is_free.ensures ∙ w.if-is_free.false))
+          (l.invariant.0, stage_skip x l.c (omega (arith, c.loop-c-test.true)) l.at l.rows l.many l.drawn l.tops l.last l.invariant.1 (free-read ts a.leaf.now l.c ∙ sym c.is_free.ensures ∙ w.if-is_free.false))
     ]
     in
     subst (λ (k : ℕ). Reached x k a.rows.now m.at m.rows m.many m.drawn m.tops m.last) (sym (add-one l.c)) step
@@ -62,4 +55,4 @@ shape_of-rows c = c.loop-c.invariant.0.long
 pub returns : goal.returns
 returns c = let a = c.args in
     let l = c.loop-c in
-    stage_end (types_in a.forms) a.leaf a.rows.now l.at l.rows l.many l.drawn l.tops l.last l.c (omega (arith, c.loop-c-test.false)) l.invariant.0 l.invariant.1
+    stage_end (types_in a.forms.now) a.leaf.now a.rows.now l.at l.rows l.many l.drawn l.tops l.last l.c (omega (arith, c.loop-c-test.false)) l.invariant.0 l.invariant.1

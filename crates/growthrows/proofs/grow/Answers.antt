@@ -15,9 +15,6 @@ loop-left-init c = let a = c.args in
     let none : a.steps - a.steps ≡ 0 = omega arith in
     (omega arith, grew_is ts a.rows.now a.many a.drawn.now a.row 0 (a.steps - a.steps) (iterate (next_type ts) a.steps a.t) (iterate (next_type ts) a.steps a.t) a.rows.now a.many a.drawn.now a.row (sym none) refl (grew_nothing ts a.rows.now a.many a.drawn.now a.row (iterate (next_type ts) a.steps a.t) c.requires.store c.requires.row_lt_many))
 
-pub overflow_sub-left : goal.overflow_sub-left
-overflow_sub-left c = omega (arith, c.loop-left-test.true)
-
 pub after-u-requires : goal.after-u-requires
 after-u-requires c = record {
   forms_fit = c.requires.forms_fit;
@@ -44,9 +41,6 @@ wrap-d-requires c = let a = c.args in
       row_lt_many = l.invariant.1.0.there;
       row_value = step_chosen a.forms c.requires.forms_fit a.t c.requires.t_in_bounds a.steps c.requires.grows_by a.rows.now a.many a.drawn.now c.requires.room a.row c.requires.row_value l.left (omega (arith, c.loop-left-test.true)) l.invariant.0 l.rows l.count l.drawn l.at l.invariant.1 x.result x.ensures;
     }
-
-pub loop-left-smaller : goal.loop-left-smaller
-loop-left-smaller c = omega (arith, c.loop-left-test.true)
 
 pub loop-left-preserved : goal.loop-left-preserved
 loop-left-preserved c = let a = c.args in

@@ -8,6 +8,3 @@ use Rattle.growthrows.proofs.grow.Given as goal
 
 abbrev pub invariant-loop-left : goal.invariant-loop-left
 invariant-loop-left l = (l.left ≤ l.steps) × Grew (types_in l.forms) l.initial.rows l.many l.initial.drawn l.row (l.steps - l.left) (iterate (next_type (types_in l.forms)) l.left l.t) l.rows l.count l.drawn l.at
-
-abbrev pub decreases-loop-left : goal.decreases-loop-left
-decreases-loop-left l = l.left

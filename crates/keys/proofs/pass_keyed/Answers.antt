@@ -5,4 +5,4 @@ use Rattle.keys.proofs.pass_keyed.Goals as goal
 pub returns-then-not-differs : goal.returns-then-not-differs
 returns-then-not-differs c =
     let r = c.requires in
-    quiet_pass _ c.args.shapes.now.fit _ _ _ r.keyed r.there _ r.k_bound (c.differs.ensures c.if-not-differs.true)
+    quiet_pass _ c.args.shapes.now.fit _ c.held.ensures.held.there _ _ r.keyed _ r.k_bound (c.differs.ensures c.if-not-differs.true)

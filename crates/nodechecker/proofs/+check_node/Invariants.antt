@@ -1,7 +1,6 @@
 -- The number that falls is the total of the label sizes. Assumes nothing.
-use Rattle.classes.specs.Held.{state}
 use Rattle.search.proofs.Measure.{label_sum}
 use Rattle.nodechecker.proofs.+check_node.Given as goal
 
 abbrev pub decreases-check_node : goal.decreases-check_node
-decreases-check_node l = label_sum (state l.classes.now l.labels.now)
+decreases-check_node l = label_sum l.state.now

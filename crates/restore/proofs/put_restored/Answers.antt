@@ -1,27 +1,53 @@
 -- `put_restored`: the types, the rows, and the rest as it stands. Assumes nothing.
-use native.Mathlib.Omega.{arith}
-use borrow.Author.Tests.{not-false, not-true}
-use Rattle.bytebuffer.proofs.PutLaws.{and_then, ends-within, still_full}
+use Rattle.std.proofs.Common.{rules}
+use mathlib.Core.Path.{◌∙◌}
+use Rattle.std.specs.Prelude.{Some, None}
+use Rattle.bytebuffer.proofs.PutLaws.{and_then, from_start, full_from_start, still_full}
+use Rattle.restore.specs.Restoring.{PutsRestored}
 use Rattle.restore.proofs.TypeLaws.{holds}
 use Rattle.restore.proofs.put_restored.Goals as goal
 
-pub put_types-typed-requires : goal.put_types-typed-requires
-put_types-typed-requires c = record {
-  some_types = record { ts = _; held = holds c.requires.taken };
-  at_in_bounds = omega arith;
-}
+pub put_types-requires : goal.put_types-requires
+put_types-requires c = record { ts = _; held = holds c.requires.taken }
 
-pub returns-then-not-typed : goal.returns-then-not-typed
-returns-then-not-typed c = record { puts = λ ts t. still_full (c.put_types-typed.ensures.puts ts (holds t)) (not-true _ c.if-not-typed.true) _ }
+pub returns-in_err-put_types : goal.returns-in_err-put_types
+returns-in_err-put_types c = let a = c.args in
+    let new = c.new-writer.ensures in
+    let typed = c.in_err-put_types.ensures in
+    let p : PutsRestored a.types.now a.rows.now a.rest.now a.out.now None c.put_types.new.out.out.now =
+    record { puts = λ ts t. full_from_start new.out new.at (still_full _ (typed.puts ts (holds t))) } in
+    let same = (typed.puts c.requires.ts (holds c.requires.taken)).same ∙ new.same in
+    rw c.from_residual.ensures (search (rules, p, same))
 
-pub put_bytes-end-requires : goal.put_bytes-end-requires
-put_bytes-end-requires c = ends-within (c.put_types-typed.ensures.puts c.requires.ts (holds c.requires.taken)) (not-false _ c.if-not-typed.false)
+pub returns-in_err-put : goal.returns-in_err-put
+returns-in_err-put c = let a = c.args in
+    let new = c.new-writer.ensures in
+    let typed = c.in_ok-put_types.ensures in
+    let rows = c.in_err-put.ensures in
+    let p : PutsRestored a.types.now a.rows.now a.rest.now a.out.now None c.put.new.self.out.now =
+    record { puts = λ ts t. full_from_start new.out new.at (and_then (typed.puts ts (holds t)) (still_full _ rows)) } in
+    let same = rows.same ∙ (typed.puts c.requires.ts (holds c.requires.taken)).same ∙ new.same in
+    rw c.from_residual-in_err-put.ensures (search (rules, p, same))
 
-pub returns-then-not-end : goal.returns-then-not-end
-returns-then-not-end c = record { puts = λ ts t. and_then (c.put_types-typed.ensures.puts ts (holds t)) (not-false _ c.if-not-typed.false) (still_full c.put_bytes-end.ensures (not-true _ c.if-not-end.true) _) }
-
-pub put_bytes-requires : goal.put_bytes-requires
-put_bytes-requires c = ends-within c.put_bytes-end.ensures (not-false _ c.if-not-end.false)
+pub returns-in_err-put-2 : goal.returns-in_err-put-2
+returns-in_err-put-2 c = let a = c.args in
+    let new = c.new-writer.ensures in
+    let typed = c.in_ok-put_types.ensures in
+    let rows = c.in_ok-put.ensures in
+    let rest = c.in_err-put-2.ensures in
+    let p : PutsRestored a.types.now a.rows.now a.rest.now a.out.now None c.put-2.new.self.out.now =
+    record { puts = λ ts t. full_from_start new.out new.at (and_then (typed.puts ts (holds t)) (and_then rows rest)) } in
+    let same = rest.same ∙ rows.same ∙ (typed.puts c.requires.ts (holds c.requires.taken)).same ∙ new.same in
+    rw c.from_residual-in_err-put-2.ensures (search (rules, p, same))
 
 pub returns : goal.returns
-returns c = record { puts = λ ts t. and_then (c.put_types-typed.ensures.puts ts (holds t)) (not-false _ c.if-not-typed.false) (and_then c.put_bytes-end.ensures (not-false _ c.if-not-end.false) c.put_bytes.ensures) }
+returns c = let a = c.args in
+    let new = c.new-writer.ensures in
+    let typed = c.in_ok-put_types.ensures in
+    let rows = c.in_ok-put.ensures in
+    let rest = c.in_ok-put-2.ensures in
+    let w = c.put-2.new.self in
+    let p : PutsRestored a.types.now a.rows.now a.rest.now a.out.now (Some w.at) w.out.now =
+    record { puts = λ ts t. from_start new.out new.at (and_then (typed.puts ts (holds t)) (and_then rows rest)) } in
+    let same = rest.same ∙ rows.same ∙ (typed.puts c.requires.ts (holds c.requires.taken)).same ∙ new.same in
+    search (rules, p, same)

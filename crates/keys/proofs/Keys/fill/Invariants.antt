@@ -1,9 +1,6 @@
--- Invariant: the shapes so far have their keys, of classes that are there. Assumes nothing.
-use Rattle.keys.specs.Keys.{AllThere, Keyed}
+-- Invariant: the shapes so far have their keys. Assumes nothing.
+use Rattle.keys.specs.Keys.{Keyed}
 use Rattle.keys.proofs.Keys.fill.Given as goal
 
 abbrev pub invariant-loop-k : goal.invariant-loop-k
-invariant-loop-k l = record {
-  keyed : Keyed l.shapes.slots l.state l.k l.self.parts l.self.owners;
-  there : AllThere l.shapes.slots l.state l.k;
-}
+invariant-loop-k l = Keyed l.shapes.slots l.state l.k l.self.parts l.self.owners
