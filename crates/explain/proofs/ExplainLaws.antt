@@ -3,6 +3,7 @@ use mathlib.Core.Path.{◌≡◌, refl, ap, sym, ◌∙◌}
 use mathlib.Core.Bool.{Bool, true, false, cond, false≢true}
 use mathlib.Core.List.{List, []}
 use Rattle.std.proofs.Common.{Result, Ok, Err, IsOk}
+use Rattle.std.specs.Prelude.{Option, Some, None}
 use Prim.Native.Nat.{ℕ, ◌-◌}
 use native.Mathlib.Omega.{arith}
 use lib.Dec.{leb}
@@ -19,14 +20,13 @@ use Rattle.guard.specs.declared.Answer.TheVariants.{Refused, Sat, Unsat, Spent}
 use Rattle.guard.proofs.Claims.{base-supported}
 use Rattle.guard.specs.Question.{number_of}
 use Rattle.guard.specs.declared.Question.{Question}
+use Rattle.laws.proofs.Bools.{by_test}
 use Rattle.numbers.specs.Reader.{ReadsAll}
 use Rattle.reader.specs.declared.Tables.{Tables}
 use Rattle.reader.specs.Reader.{in_tables}
 use Rattle.reader.proofs.TablesRead.{refused-file}
 use Rattle.roots.proofs.TablesRead.{guard-accepted, guard-tables}
 use Rattle.refutations.specs.Record.{record_bytes}
-use Rattle.recordwriter.specs.declared.Written.{Written}
-use Rattle.bytebuffer.specs.Puts.{filled}
 use Rattle.bytebuffer.proofs.FillLaws.{filled_none, filled_with}
 use Rattle.recordwriter.specs.Records.{Records, written_of}
 use Rattle.recordwriter.proofs.RecordLaws.{written_none, written_with}
@@ -42,7 +42,7 @@ file-read bytes (Ok t) e k = refl
 file-read bytes (Err q) e k = let f : accepted k.guard k.rest ≡ refused (number_of q) = sym k.is ∙ refused-file base bytes (number_of q) e in absurd cc
 
 module _ {bytes : List ℕ} {t : Tables} (read : in_tables (file base) bytes ≡ accepted t []) where
-  pub file-record : {w : Written} {lent lent' : List ℕ} → Records t w lent lent' → RecordsFile bytes w lent lent'
+  pub file-record : {w : Option ℕ} {lent lent' : List ℕ} → Records t w lent lent' → RecordsFile bytes w lent lent'
   file-record r =
       record {
         says = λ g rest e. r.says g (guard-accepted base base-supported bytes g rest e) (guard-tables base bytes t read g rest e);
@@ -106,6 +106,16 @@ module _ (budget room : ℕ) (p : Parsed Guard) (o : Outcome) (c : Closed budget
       go true = refl
       go false = refl
 
+-- the number of bytes tells that they fit, and none that they don't
+module _ (bytes : List ℕ) (room : ℕ) where
+  told_many : (many : ℕ) → Some many ≡ written_of bytes room → (leb (length bytes) room ≡ true) × (many ≡ length bytes)
+  told_many many e =
+      by_test (leb (length bytes) room) (λ q. let p : Some many ≡ Some (length bytes) = e ∙ written_with bytes room q in (q, cc))
+      (λ q. let p : Some many ≡ None = e ∙ written_none bytes room q in let z : ◌≡◌ {A = ℕ} 0 1 = cc in absurd (omega arith))
+
+  told_none : None ≡ written_of bytes room → leb (length bytes) room ≡ false
+  told_none e = by_test (leb (length bytes) room) (λ q. let p : None ≡ Some (length bytes) = e ∙ written_with bytes room q in let z : ◌≡◌ {A = ℕ} 0 1 = cc in absurd (omega arith)) (λ q. q)
+
 no_bytes : (room : ℕ) → replicate room 0 ≡ padded [] room
 no_bytes room = let e : room ≡ room - 0 = omega arith in ap (λ (k : ℕ). replicate k 0) e
 
@@ -142,32 +152,19 @@ module _ {bytes : List ℕ} {budget : ℕ} {rows places : List ℤ} (lent : List
     pub taken : Taken bytes
     taken = record { guard = closed.guard; rest = closed.rest; is = in_file }
 
-    module _ {w : Written} {lent' : List ℕ} (r : RecordsFile bytes w lent lent') where
-      abbrev own : List ℕ
-      own = record_bytes closed.guard
+    abbrev own : List ℕ
+    own = record_bytes closed.guard
 
-      is-written : w ≡ written_of (record_bytes closed.guard) (length lent)
-      is-written = r.says closed.guard closed.rest in_file
-
-      is-left : lent' ≡ filled (record_bytes closed.guard) (length lent)
-      is-left = r.left closed.guard closed.rest in_file
-
-      fits : (b : Bool) → w.fits ≡ b → leb (length own) (length lent) ≡ b
-      fits b q = by_fits (leb (length own) (length lent)) refl ∙ q
-        where
-          by_fits : (c : Bool) → leb (length own) (length lent) ≡ c → leb (length own) (length lent) ≡ w.fits
-          by_fits true e = e ∙ sym (ap (λ (x : Written). x.fits) (is-written ∙ written_with own (length lent) e))
-          by_fits false e = e ∙ sym (ap (λ (x : Written). x.fits) (is-written ∙ written_none own (length lent) e))
-
-      pub unsat-recorded : w.fits ≡ true → Explains base bytes budget rows places lent (record { answer = answer; bytes = w.many }) rows' places' lent'
+    module _ {lent' : List ℕ} where
+      pub unsat-recorded : {many : ℕ} → RecordsFile bytes (Some many) lent lent' → Explains base bytes budget rows places lent (record { answer = answer; bytes = many }) rows' places' lent'
       unfolding explained recorded
-      unsat-recorded q =
-          let room = fits true q in
+      unsat-recorded {many} r =
+          let (room, long) = told_many own (length lent) many (r.says closed.guard closed.rest in_file) in
           let (o, x) = asked budget (length lent) asks (outcome_of answer) closed true room in
           record {
             says = sym o;
-            many = ap (λ (y : Written). y.many) (is-written ∙ written_with own (length lent) room) ∙ sym (ap length x);
-            written = is-left ∙ filled_with own (length lent) room ∙ ap (λ (bs : List ℕ). padded bs (length lent)) (sym x);
+            many = long ∙ sym (ap length x);
+            written = r.left closed.guard closed.rest in_file ∙ filled_with own (length lent) room ∙ ap (λ (bs : List ℕ). padded bs (length lent)) (sym x);
             long_rows = d.long_rows;
             long_places = d.long_places;
             cleared = d.cleared;
@@ -175,15 +172,15 @@ module _ {bytes : List ℕ} {budget : ℕ} {rows places : List ℤ} (lent : List
             dead = d.dead;
           }
 
-      pub outgrown : w.fits ≡ false → Explains base bytes budget rows places lent (record { answer = Refused 11; bytes = 0 }) rows' places' lent'
+      pub outgrown : RecordsFile bytes None lent lent' → Explains base bytes budget rows places lent (record { answer = Refused 11; bytes = 0 }) rows' places' lent'
       unfolding explained recorded outcome_of
-      outgrown q =
-          let room = fits false q in
+      outgrown r =
+          let room = told_none own (length lent) (r.says closed.guard closed.rest in_file) in
           let (o, x) = asked budget (length lent) asks (outcome_of answer) closed false room in
           record {
             says = sym o;
             many = sym (ap length x);
-            written = is-left ∙ filled_none own (length lent) room ∙ no_bytes (length lent) ∙ ap (λ (bs : List ℕ). padded bs (length lent)) (sym x);
+            written = r.left closed.guard closed.rest in_file ∙ filled_none own (length lent) room ∙ no_bytes (length lent) ∙ ap (λ (bs : List ℕ). padded bs (length lent)) (sym x);
             long_rows = d.long_rows;
             long_places = d.long_places;
             cleared = λ f. d.cleared (λ n e. differ n closed.counts (sym e ∙ closed.answer));

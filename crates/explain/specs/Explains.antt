@@ -1,6 +1,6 @@
 -- What the second call says and leaves in the three buffers. Assumes nothing: definitions.
 -- Quoted sentences are document 02's, of request #101, or as in `decide/specs/Decides` document 01's.
-use Rattle.std.specs.Prelude.{◌≡◌, Bool, true, false, cond, List, [], ◌++◌, ℕ, ◌-◌, leb, ℤ, pos, length, replicate}
+use Rattle.std.specs.Prelude.{◌≡◌, Bool, true, false, cond, Option, List, [], ◌++◌, ℕ, ◌-◌, leb, ℤ, pos, length, replicate}
 use Rattle.guard.specs.Answer.{Outcome, Outcome.refusal, Outcome.sat, Outcome.spent, Outcome.unsat, outcome_of, questions, rows_of, with_budget}
 use Rattle.guard.specs.File.{file}
 use Rattle.guard.specs.Guard.{Guard}
@@ -12,7 +12,6 @@ use Rattle.guard.specs.Shown.{Shows}
 use Rattle.guard.specs.declared.Answer.{Answer}
 use Rattle.guard.specs.declared.Answer.TheVariants.{Refused, Sat, Unsat, Spent}
 use Rattle.refutations.specs.Record.{record_bytes}
-use Rattle.recordwriter.specs.declared.Written.{Written}
 use Rattle.bytebuffer.specs.Puts.{filled}
 use Rattle.recordwriter.specs.Records.{written_of}
 use Rattle.explain.specs.declared.Explained.{Explained}
@@ -85,6 +84,6 @@ pub record Taken (bytes : List ℕ) : Type 0 where
   pub is : file base bytes ≡ accepted guard rest
 
 -- the record of an accepted file
-pub record RecordsFile (bytes : List ℕ) (r : Written) (lent lent' : List ℕ) : Type 0 where
+pub record RecordsFile (bytes : List ℕ) (r : Option ℕ) (lent lent' : List ℕ) : Type 0 where
   pub says : (g : Guard) (rest : List ℕ) → file base bytes ≡ accepted g rest → r ≡ written_of (record_bytes g) (length lent)
   pub left : (g : Guard) (rest : List ℕ) → file base bytes ≡ accepted g rest → lent' ≡ filled (record_bytes g) (length lent)

@@ -6,7 +6,6 @@ ghost use Rattle.guard.specs.Limits.{base};
 ghost use Rattle.explain.specs.Explains.{Explains, RecordsFile, Taken, is_unsat};
 
 use guard::Answer;
-use recordwriter::Written;
 
 // The answer, and the number of bytes of the record; there is none but after UNSAT.
 #[derive(Clone, Copy)]
@@ -18,22 +17,17 @@ pub struct Explained {
 fn is_unsat(a: Answer) -> bool
     ensures { result ≡ is_unsat a }
 {
-    match a {
-        Answer::Refused { .. } => false,
-        Answer::Sat { .. } => false,
-        Answer::Unsat { .. } => true,
-        Answer::Spent { .. } => false,
-    }
+    matches!(a, Answer::Unsat { .. })
 }
 
-// The record of an accepted file.
-fn write_file_record(file: &[u8], record: &mut [u8]) -> Written
+// The record of an accepted file: how many bytes it has, or none where it outgrows the buffer.
+fn write_file_record(file: &[u8], record: &mut [u8]) -> Option<usize>
     requires { Taken file.now }
     ensures { RecordsFile file.now result «record».old «record».new }
 {
     let tables = reader::read(file, 6, 24, 32).unwrap();
     let problem = problem::problem_of(tables);
-    recordwriter::write_record(tables, problem, record)
+    recordwriter::write_record(&tables, &problem, record)
 }
 
 // The answer to a guard file within a budget of nodes. After SAT the row and place buffers show messages, after UNSAT the
@@ -52,15 +46,11 @@ pub fn explain(
         bytebuffer::clear(record);
         return Explained { answer, bytes: 0 };
     }
-    let w = write_file_record(file, record);
-    if !w.fits {
+    let Some(bytes) = write_file_record(file, record) else {
         return Explained {
             answer: Answer::Refused { question: 11 },
             bytes: 0,
         };
-    }
-    Explained {
-        answer,
-        bytes: w.many,
-    }
+    };
+    Explained { answer, bytes }
 }
