@@ -10,6 +10,7 @@ ghost use Rattle.claims.specs.Claims.{BrokenLine, ClosedBy, EmptyTerm, InsideTer
 use classes::State;
 use closings::Closing;
 use constants::Constants;
+use instance::Instance;
 use labelled::Sorts;
 use slots::Shapes;
 use splitclaims::term_of;
@@ -54,22 +55,15 @@ fn is_inside(state: &State, shapes: &Shapes, sorts: &Sorts, x: u32) -> bool
 }
 
 // Whether the node is closed as the entry says.
-pub fn closes(
-    state: &State,
-    shapes: &Shapes,
-    sorts: &Sorts,
-    constants: &Constants,
-    lines: &LiteralTable,
-    closing: Closing,
-) -> bool
-    requires lines_fit { LinesFit lines.now.terms lines.now.others }
-    requires many_bound { lines.now.many ≤ 64 }
-    ensures { Tells (ClosedBy shapes.now.slots sorts.now.sorts sorts.now.full constants.now.sorts constants.now.values lines.now.kinds lines.now.terms lines.now.others lines.now.many state.now closing) result }
+pub fn closes(state: &State, instance: &Instance, closing: Closing) -> bool
+    requires lines_fit { LinesFit instance.now.lines.terms instance.now.lines.others }
+    requires many_bound { instance.now.lines.many ≤ 64 }
+    ensures { Tells (ClosedBy instance.now.shapes.slots instance.now.sorts.sorts instance.now.sorts.full instance.now.constants.sorts instance.now.constants.values instance.now.lines.kinds instance.now.lines.terms instance.now.lines.others instance.now.lines.many state.now closing) result }
 {
     match closing {
-        Closing::EmptyLabel(x) => is_empty(state, sorts, x),
-        Closing::BrokenLine(j) => is_broken(state, lines, j),
-        Closing::UnlikeConstants(x) => is_unlike(state, sorts, constants, x),
-        Closing::InsideItself(x) => is_inside(state, shapes, sorts, x),
+        Closing::EmptyLabel(x) => is_empty(state, &instance.sorts, x),
+        Closing::BrokenLine(j) => is_broken(state, &instance.lines, j),
+        Closing::UnlikeConstants(x) => is_unlike(state, &instance.sorts, &instance.constants, x),
+        Closing::InsideItself(x) => is_inside(state, &instance.shapes, &instance.sorts, x),
     }
 }

@@ -7,12 +7,9 @@ ghost use Rattle.refutations.specs.Record.{numbers_of};
 ghost use Rattle.closings.specs.Closing.{Names, entry_in};
 
 use classes::State;
-use constants::Constants;
 use cycles::inside_itself;
-use labelled::Sorts;
+use instance::Instance;
 use reasons::{broken_line, empty_label, unlike_constants};
-use slots::Shapes;
-use tables::LiteralTable;
 
 // A reason to close a node, with the number of the term or line that it is found at.
 #[derive(Clone, Copy)]
@@ -38,27 +35,21 @@ impl Closing {
 }
 
 // The lowest reason that applies, with its lowest term or line.
-pub fn closing_of(
-    state: &State,
-    shapes: &Shapes,
-    sorts: &Sorts,
-    constants: &Constants,
-    lines: &LiteralTable,
-) -> Option<Closing>
-    requires lines_fit { LinesFit lines.now.terms lines.now.others }
-    requires many_bound { lines.now.many ≤ 64 }
-    ensures { Names shapes.now.slots sorts.now.sorts sorts.now.full constants.now.sorts constants.now.values lines.now.kinds lines.now.terms lines.now.others lines.now.many state.now result }
+pub fn closing_of(state: &State, instance: &Instance) -> Option<Closing>
+    requires lines_fit { LinesFit instance.now.lines.terms instance.now.lines.others }
+    requires many_bound { instance.now.lines.many ≤ 64 }
+    ensures { Names instance.now.shapes.slots instance.now.sorts.sorts instance.now.sorts.full instance.now.constants.sorts instance.now.constants.values instance.now.lines.kinds instance.now.lines.terms instance.now.lines.others instance.now.lines.many state.now result }
 {
-    if let Some(x) = empty_label(state, sorts) {
+    if let Some(x) = empty_label(state, &instance.sorts) {
         return Some(Closing::EmptyLabel(x as u32));
     }
-    if let Some(j) = broken_line(state, lines) {
+    if let Some(j) = broken_line(state, &instance.lines) {
         return Some(Closing::BrokenLine(j as u32));
     }
-    if let Some(c) = unlike_constants(state, constants) {
+    if let Some(c) = unlike_constants(state, &instance.constants) {
         return Some(Closing::UnlikeConstants(c as u32));
     }
-    if let Some(x) = inside_itself(state, shapes, sorts) {
+    if let Some(x) = inside_itself(state, &instance.shapes, &instance.sorts) {
         return Some(Closing::InsideItself(x as u32));
     }
     None

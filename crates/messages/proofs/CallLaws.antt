@@ -3,15 +3,12 @@
 use mathlib.Core.Path.{◌≡◌, ap, ap₂, sym, ◌∙◌, subst}
 use mathlib.Core.Bool.{true}
 use mathlib.Core.List.{List}
-use Prim.Native.Nat.{ℕ, ◌*◌, ◌^◌, ◌≤◌, ◌<◌}
+use Prim.Native.Nat.{ℕ, ◌*◌, ◌≤◌, ◌<◌}
 use native.Mathlib.Omega.{arith}
 use lib.IntN.{ℤ}
 use lib.ListN.{length, get_or}
-use mir.Syntax.{w16}
-use mir.Val.{Fits}
 use Rattle.guard.specs.Closure.{State}
 use Rattle.guard.specs.Guard.{Guard}
-use Rattle.guard.specs.Limits.{variant_limit}
 use Rattle.guard.specs.Types.{Types, defaults}
 use Rattle.guard.proofs.ClosureState.{Small}
 use Rattle.tables.specs.declared.TypeTable.{TypeTable}
@@ -24,7 +21,7 @@ use Rattle.growthtables.proofs.FitLaws.{accepted-range}
 use Rattle.forms.specs.declared.Forms.{Forms}
 use Rattle.forms.specs.Forms.{FormsFit, types_in}
 use Rattle.forms.proofs.FormLaws.{forms_of, guard_forms, guard-types}
-use Rattle.classes.specs.Held.{Held, state}
+use Rattle.classes.specs.Held.{Held}
 use Rattle.search.specs.Nodes.{Accepted, OpenLeaf}
 use Rattle.plans.specs.Plans.{OpenState, is_free, open_of}
 use Rattle.plans.proofs.ClassLaws.{free-variant, sort_for_lem, type-small}
@@ -40,9 +37,9 @@ use Rattle.messages.proofs.FewRows.{node-rows, rows-small}
 use Rattle.messages.proofs.DrawLaws.{draws}
 
 -- labels of 16 bits are masks
-pub labels-small : (classes labels own : List ℕ) → own ≡ labels → ((i : ℕ) → Fits w16 (get_or own i 0)) → Small (state classes labels)
+pub labels-small : (s : State) → ((c : ℕ) → get_or s.labels c 0 < 65536) → Small s
 unfolding Small
-labels-small classes labels own e h i = subst (λ (l : List ℕ). get_or l i 0 < 2 ^ variant_limit) e (omega (arith, (h i).fits))
+labels-small s h = h
 
 module _ (tables : Tables) (g : Guard) (ok : Accepted g) (is : tables ≡ guard_tables g) where
   types-read : tables.types ≡ type_table g.types

@@ -1,4 +1,4 @@
--- An open node of an accepted guard: its leaf fits, its free classes have types and variants to start with, and there are
+-- An open node of an accepted guard: its free classes have types and variants to start with, and there are
 -- messages that the leaf says, under which the guard holds. Assumes nothing.
 use mathlib.Core.Path.{◌≡◌, ap, sym, subst}
 use mathlib.Core.Bool.{true}
@@ -22,11 +22,11 @@ use Rattle.models.proofs.TypedTable.{table-typed}
 use Rattle.tables.specs.Layout.{row_table}
 use Rattle.classes.specs.Held.{Held}
 use Rattle.arrays.specs.Arrays.{constants_of, fieldless_of, kind_number, shapes_of, sorts_of}
-use Rattle.arrays.specs.Slots.{ShapesFit, SortsFit, active, kind_at, many_at, part_at}
-use Rattle.arrays.proofs.GuardSlots.{shape_slots, shapes-fit, sorts-fit}
+use Rattle.arrays.specs.Slots.{active, kind_at, many_at, part_at}
+use Rattle.arrays.proofs.GuardSlots.{shape_slots}
 use Rattle.arrays.proofs.TableSlots.{Shaped, Shaped.of_build, Shaped.of_read}
 use Rattle.ranks.specs.Ranks.{ranking_of}
-use Rattle.ranks.proofs.RankLaws.{ranks_fall, ranks-small}
+use Rattle.ranks.proofs.RankLaws.{ranks_fall}
 use Rattle.search.specs.Nodes.{Accepted, NodeLiterals, NodeLiterals.at_is, NodeLiterals.at_isnt, NodeLiterals.at_root, OpenLeaf}
 use Rattle.search.proofs.ClosedState.{literals_in_lem}
 use Rattle.kinds.specs.Found.{is_shape}
@@ -35,7 +35,7 @@ use Rattle.plans.specs.Plans.{OpenState, highest_rank, is_free, open_of, plan_fo
 use Rattle.plans.proofs.ClassLaws.{free-is-free, free_need, marked_need, need_class, need_marked, need_small, type_for_lem}
 use Rattle.plans.proofs.PlanLaws.{falls, plans_drawing}
 use Rattle.leaf.specs.declared.Leaf.{Leaf}
-use Rattle.leaf.specs.Leaf.{LeafFits, open_state}
+use Rattle.leaf.specs.Leaf.{open_state}
 use Rattle.leaf.specs.Picture.{Pictured, Wanted}
 use Rattle.leaf.proofs.Pictured.{pictured, val}
 use Rattle.messages.specs.Rows.{LeafOf}
@@ -53,7 +53,7 @@ module _ (g : Guard) (ok : Accepted g) where
   node_of (at_isnt {ls = ls} n i v hi hv) = isnt-node g i v ls (literals_in_lem g ok (at_isnt n i v hi hv)) (node_of n)
 
   -- kinds are numbers of a type and a variant
-  kinds-small : (k : ℕ) → k < 30 → kind_at (shapes_of g) k ≤ 256
+  pub kinds-small : (k : ℕ) → k < 30 → kind_at (shapes_of g) k ≤ 256
   kinds-small k h =
       by_test (eqb (kind_at (shapes_of g) k) 0) (λ b. omega (arith, eqb-true (kind_at (shapes_of g) k) 0 b))
       (λ b. go ((shape_slots ok.limits ok.supported g ok.well_formed ok.total).found k h (eqb-false _ _ b)))
@@ -84,13 +84,13 @@ module _ (g : Guard) (ok : Accepted g) where
 
     pub is_open : open_state g.types leaf ≡ open_of g s leaf.marks
     is_open =
-        let a : leaf.classes ≡ s.classes = is.classes in
-        let b : leaf.labels ≡ s.labels = is.labels in
-        let c : leaf.shapes ≡ shapes_of g = is.shapes in
-        let d : leaf.sorts ≡ sorts_of g = is.sorts in
-        let e : leaf.fieldless ≡ fieldless_of g = is.fieldless in
-        let f : leaf.constants ≡ constants_of g = is.constants in
-        let h : leaf.values ≡ (row_table g.types g.rows).values = is.values in
+        let a : leaf.state.classes ≡ s.classes = ap (λ (t : State). t.classes) is.state in
+        let b : leaf.state.labels ≡ s.labels = ap (λ (t : State). t.labels) is.state in
+        let c : leaf.shapes.slots ≡ shapes_of g = is.shapes in
+        let d : leaf.sorts.sorts ≡ sorts_of g = is.sorts in
+        let e : leaf.sorts.fieldless ≡ fieldless_of g = is.fieldless in
+        let f : leaf.constants.sorts ≡ constants_of g = is.constants in
+        let h : leaf.constants.values ≡ (row_table g.types g.rows).values = is.values in
         let r : leaf.ranks ≡ (ranking_of (shapes_of g) s).ranks = is.ranks in
         cc
 
@@ -103,15 +103,6 @@ module _ (g : Guard) (ok : Accepted g) where
     -- the message of each class
     unfoldable pub message : ℕ → Message
     message = val ok.limits ok.supported g ok.well_formed ok.total ls nd o s open'.agrees small leaf.marks (ranking_of (shapes_of g) s).ranks
-
-    pub leaf-fits : LeafFits leaf
-    leaf-fits = record {
-      held = subst Held (sym is.classes) held;
-      shapes_fit = subst ShapesFit (sym is.shapes) (shapes-fit ok.limits ok.supported g ok.well_formed ok.total);
-      sorts_fit = subst SortsFit (sym is.sorts) (sorts-fit ok.limits ok.supported g ok.well_formed ok.total);
-      kinds = subst (λ (l : List ℕ). (k : ℕ) → k < 30 → kind_at l k ≤ 256) (sym is.shapes) kinds-small;
-      ranks = subst (λ (l : List ℕ). (c : ℕ) → get_or l c 0 ≤ 31) (sym is.ranks) (ranks-small (shapes_of g) s);
-    }
 
     -- a class that gets a message is needed
     pub wanted_need : (c : ℕ) → Wanted x c → Need c

@@ -15,7 +15,7 @@ use Rattle.plans.specs.Plans.{OpenState, highest_rank, marked}
 use Rattle.plans.proofs.PlanCases.{highest-small}
 use Rattle.plans.proofs.PlanLaws.{highest-at}
 use Rattle.leaf.specs.declared.Leaf.{Leaf}
-use Rattle.leaf.specs.Leaf.{LeafFits, open_state}
+use Rattle.leaf.specs.Leaf.{open_state}
 use Rattle.leaf.specs.Picture.{Pictured, Wanted}
 use Rattle.freerows.specs.Free.{FreeSheet}
 use Rattle.fixedrows.specs.Stage.{Advances, Stage, Staged}
@@ -29,8 +29,8 @@ module _ (ts : Types) (leaf : Leaf) where
   unfolding highest_rank
   most-is most e = e
 
-  pub most-small : LeafFits leaf → (most : ℕ) → most ≡ highest_of leaf.marks leaf.ranks → most ≤ 31
-  most-small fits most e = omega (arith, most-is most e, highest-small x 31 fits.ranks)
+  pub most-small : (most : ℕ) → most ≡ highest_of leaf.marks leaf.ranks → most ≤ 31
+  most-small most e = omega (arith, most-is most e, highest-small x 31 leaf.ranks_low)
 
   rank-low : (c : ℕ) → Wanted x c → get_or leaf.ranks c 0 ≤ highest_rank x
   unfolding highest_rank highest_of marked is_marked

@@ -19,13 +19,12 @@ use Rattle.leaf.specs.Sheet.{HasRow, Sheet}
 
 -- the leaf has the state and the guard's arrays, with marks at the classes that get a message and the ranks of all
 pub record LeafOf (g : Guard) (s : State) (leaf : Leaf) : Type 0 where
-  pub classes : leaf.classes ≡ s.classes
-  pub labels : leaf.labels ≡ s.labels
-  pub shapes : leaf.shapes ≡ shapes_of g
-  pub sorts : leaf.sorts ≡ sorts_of g
-  pub fieldless : leaf.fieldless ≡ fieldless_of g
-  pub constants : leaf.constants ≡ constants_of g
-  pub values : leaf.values ≡ (row_table g.types g.rows).values
+  pub state : leaf.state ≡ s
+  pub shapes : leaf.shapes.slots ≡ shapes_of g
+  pub sorts : leaf.sorts.sorts ≡ sorts_of g
+  pub fieldless : leaf.sorts.fieldless ≡ fieldless_of g
+  pub constants : leaf.constants.sorts ≡ constants_of g
+  pub values : leaf.constants.values ≡ (row_table g.types g.rows).values
   pub marks : Marks (shapes_of g) s (length g.rows) leaf.marks
   pub ranks : leaf.ranks ≡ (ranking_of (shapes_of g) s).ranks
 

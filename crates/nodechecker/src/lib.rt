@@ -32,14 +32,7 @@ pub fn check_node(
     state.held();
     match e.value {
         Entry::Closing(closing) => {
-            if !claims::closes(
-                state,
-                &instance.shapes,
-                &instance.sorts,
-                &instance.constants,
-                &instance.lines,
-                closing,
-            ) {
+            if !claims::closes(state, instance, closing) {
                 return Err(Question::FalseEntry);
             }
             Ok(e.at)

@@ -24,13 +24,7 @@ pub fn write_node(
 {
     saturation::saturate_fully(state, &instance.shapes, reads, &instance.sorts);
     state.held();
-    if let Some(c) = closings::closing_of(
-        state,
-        &instance.shapes,
-        &instance.sorts,
-        &instance.constants,
-        &instance.lines,
-    ) {
+    if let Some(c) = closings::closing_of(state, instance) {
         let (reason, number) = c.numbers();
         return out.put(&[reason, number as u8]);
     }

@@ -57,16 +57,16 @@ module _ (tables : Tables) (s : State) (rows places : List ℤ) (n : ℕ) (rows�
   rows-low : (k : ℕ) → n ≤ k → k ≤ 4096 → 4 * k ≤ length rows → (n ≤ 4096) × (4 * n ≤ length rows₁)
   rows-low k h l m = (omega arith, omega (arith, drawn.long_rows))
 
-  pub drawn-fits : (n ≤ 4096) × (tables.rows.many ≤ 24) × (4 * n ≤ length rows₁) × (tables.rows.many ≤ length places₁)
-  drawn-fits =
+  pub drawn_fits : (n ≤ 4096) × (tables.rows.many ≤ 24) × (4 * n ≤ length rows₁) × (tables.rows.many ≤ length places₁)
+  drawn_fits =
       let (low, long) = rows-low (rows_enough tables.types.many tables.rows.many) rows_few (rows-small tables.types.many tables.rows.many types-few few-terms) room.0 in
       (low, few-terms, long, omega (arith, drawn.long_places, room.1))
 
   rows-within : 4 * n ≤ length rows₁
-  rows-within = drawn-fits.2
+  rows-within = drawn_fits.2
 
   terms-within : tables.rows.many ≤ length places₁
-  terms-within = drawn-fits.3
+  terms-within = drawn_fits.3
 
   -- ---- the answer
 

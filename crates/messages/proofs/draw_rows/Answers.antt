@@ -6,11 +6,10 @@ use Rattle.messages.proofs.draw_rows.Goals as goal
 pub free_rows-many-requires : goal.free_rows-many-requires
 free_rows-many-requires c = let a = c.args in
     record {
-      leaf_fits = c.requires.leaf_fits;
       forms_fit = c.requires.forms_fit;
       free_fits = c.requires.free_fits;
       blank = c.requires.blank;
-      most_value = most-is (types_in a.forms) a.leaf c.highest_rank-most.result c.highest_rank-most.ensures;
+      most_value = most-is (types_in a.forms.now) a.leaf.now c.highest_rank-most.result c.highest_rank-most.ensures;
       enough = c.requires.enough;
     }
 
@@ -19,9 +18,8 @@ fixed_rows-requires c = let a = c.args in
     let f = c.free_rows-many in
     let m = c.highest_rank-most in
     record {
-      most_bound = most-small (types_in a.forms) a.leaf c.requires.leaf_fits m.result m.ensures;
-      leaf_fits = c.requires.leaf_fits;
-      staged = free-staged (types_in a.forms) a.leaf a.rows.now f.new.at f.new.rows f.result f.ensures c.requires.drawable;
+      most_bound = most-small (types_in a.forms.now) a.leaf.now m.result m.ensures;
+      staged = free-staged (types_in a.forms.now) a.leaf.now a.rows.now f.new.at f.new.rows f.result f.ensures c.requires.drawable;
     }
 
 pub returns : goal.returns
@@ -29,4 +27,4 @@ returns c = let a = c.args in
     let f = c.free_rows-many in
     let m = c.highest_rank-most in
     let d = c.fixed_rows in
-    rows-drawn (types_in a.forms) a.leaf a.rows.now f.new.at f.new.rows f.result f.ensures c.requires.drawable m.result m.ensures d.new.at d.new.rows d.result d.ensures
+    rows-drawn (types_in a.forms.now) a.leaf.now a.rows.now f.new.at f.new.rows f.result f.ensures c.requires.drawable m.result m.ensures d.new.at d.new.rows d.result d.ensures
