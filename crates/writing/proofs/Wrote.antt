@@ -21,7 +21,7 @@ use Rattle.writing.proofs.Writing as buffer
 pub as_written : {most : ℕ} {text : List ℕ} {w w' : Writer} → Wrote most text w w' → Written most w.out.now w.at text w'.out.now w'.at
 as_written p = record { long = p.long; few = p.few; ends = p.ends; front = p.front; rest = p.rest }
 
-by_written : {most : ℕ} {text : List ℕ} {w w' : Writer} → w'.out.ghost_name ≡ w.out.ghost_name → Written most w.out.now w.at text w'.out.now w'.at → Wrote most text w w'
+pub by_written : {most : ℕ} {text : List ℕ} {w w' : Writer} → w'.out.ghost_name ≡ w.out.ghost_name → Written most w.out.now w.at text w'.out.now w'.at → Wrote most text w w'
 by_written s p = record { same = s; long = p.long; few = p.few; ends = p.ends; front = p.front; rest = p.rest }
 
 -- from the start of a buffer
