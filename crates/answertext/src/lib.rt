@@ -8,43 +8,43 @@ ghost use Rattle.guard.specs.Answer.{rows_of};
 ghost use Rattle.guard.specs.File.{file};
 ghost use Rattle.guard.specs.Limits.{base};
 ghost use Rattle.tables.specs.Layout.{type_table};
+ghost use Rattle.writing.specs.Wrote.{HasRoom, Wrote};
 ghost use Rattle.writing.specs.Written.{Written};
 ghost use Rattle.answertext.specs.Text.{answer_text, shown_text, term_line, terms_in, types_in, verdict_line};
 
+use bytebuffer::Writer;
 use guard::Answer;
 use tables::TypeTable;
 
 // ---- terms
 
-fn put_term(out: &mut [u8], at: usize, places: &[i32], i: u32) -> usize
-    requires { at + 96 ≤ length out.old }
-    ensures { Written 96 out.old at (term_line places.now i) out.new result }
+fn put_term(out: &mut Writer, places: &[i32], i: u32)
+    requires { HasRoom 96 out.old }
+    ensures { Wrote 96 (term_line places.now i) out.old out.new }
 {
-    let named = writing::put_named(out, at, b"term ", i);
-    let worded = writing::put_bytes(out, named, b" row");
-    let next = writing::put_number_at(out, worded, places, i as usize);
-    writing::put_bytes(out, next, b"\n")
+    writing::put_named(out, b"term ", i);
+    writing::put_bytes(out, b" row");
+    writing::put_number_at(out, places, i as usize);
+    writing::put_bytes(out, b"\n");
 }
 
-fn put_terms(out: &mut [u8], at: usize, places: &[i32], many: u32) -> usize
-    requires { at + 96 * many ≤ length out.old }
-    ensures { Written (96 * many) out.old at (concat_map (term_line places.now) (from many 0)) out.new result }
+fn put_terms(out: &mut Writer, places: &[i32], many: u32)
+    requires { HasRoom (96 * many) out.old }
+    ensures { Wrote (96 * many) (concat_map (term_line places.now) (from many 0)) out.old out.new }
 {
-    let mut next = at;
     for i in 0..many {
-        next = put_term(out, next, places, i);
+        put_term(out, places, i);
     }
-    next
 }
 
 // ---- answers
 
-fn put_verdict(out: &mut [u8], name: &[u8], n: u32) -> usize
-    requires { length name.now + 11 ≤ length out.old }
-    ensures { Written (length name.now + 11) out.old 0 (verdict_line name.now n) out.new result }
+fn put_verdict(out: &mut Writer, name: &[u8], n: u32)
+    requires { HasRoom (length name.now + 11) out.old }
+    ensures { Wrote (length name.now + 11) (verdict_line name.now n) out.old out.new }
 {
-    let next = writing::put_named(out, 0, name, n);
-    writing::put_bytes(out, next, b"\n")
+    writing::put_named(out, name, n);
+    writing::put_bytes(out, b"\n");
 }
 
 // The table of no types.
@@ -62,28 +62,40 @@ fn no_types() -> TypeTable
 
 // The rows and terms that are shown. How many fields each variant has, and how many terms there are, is the file's; one that is refused
 // has no types and no terms.
-fn put_shown(
-    out: &mut [u8],
-    at: usize,
-    bytes: &[u8],
-    many: u32,
-    rows: &[i32],
-    places: &[i32],
-) -> usize
-    requires { at + (96 * many + 2304) ≤ length out.old }
-    ensures { Written (96 * many + 2304) out.old at (shown_text (types_in (file base bytes.now)) (terms_in (file base bytes.now)) many rows.now places.now) out.new result }
+fn put_shown(out: &mut Writer, bytes: &[u8], many: u32, rows: &[i32], places: &[i32])
+    requires { HasRoom (96 * many + 2304) out.old }
+    ensures { Wrote (96 * many + 2304) (shown_text (types_in (file base bytes.now)) (terms_in (file base bytes.now)) many rows.now places.now) out.old out.new }
 {
     match reader::read(bytes, 6, 24, 32) {
         Ok(t) => {
-            let next = rowtext::put_rows(out, at, t.types, rows, many);
-            let table = t.rows;
-            put_terms(out, next, places, table.many as u32)
+            rowtext::put_rows(out, &t.types, rows, many);
+            put_terms(out, places, t.rows.many as u32);
         }
-        Err(_) => rowtext::put_rows(out, at, no_types(), rows, many),
+        Err(_) => rowtext::put_rows(out, &no_types(), rows, many),
     }
 }
 
-// The text of the answer to a file, whose messages the two buffers show; the text's length.
+// The text of the answer to a file, whose messages the two buffers show.
+fn put_answer(out: &mut Writer, bytes: &[u8], answer: Answer, rows: &[i32], places: &[i32])
+    requires { HasRoom (96 * rows_of answer + 2400) out.old }
+    ensures { Wrote (96 * rows_of answer + 2400) (answer_text (file base bytes.now) answer rows.now places.now) out.old out.new }
+{
+    match answer {
+        Answer::Refused { question } => put_verdict(out, b"REFUSED ", question),
+        Answer::Sat {
+            nodes,
+            rows: many,
+            ..
+        } => {
+            put_verdict(out, b"SAT ", nodes);
+            put_shown(out, bytes, many, rows, places);
+        }
+        Answer::Unsat { nodes, .. } => put_verdict(out, b"UNSAT ", nodes),
+        Answer::Spent { budget, .. } => put_verdict(out, b"SPENT ", budget),
+    }
+}
+
+// The same from the start of a buffer on; the text's length.
 pub fn answer_text(
     bytes: &[u8],
     answer: Answer,
@@ -94,19 +106,9 @@ pub fn answer_text(
     requires { 96 * rows_of answer + 2400 ≤ length out.old }
     ensures { Written (96 * rows_of answer + 2400) out.old 0 (answer_text (file base bytes.now) answer rows.now places.now) out.new result }
 {
-    match answer {
-        Answer::Refused { question } => put_verdict(out, b"REFUSED ", question),
-        Answer::Sat {
-            nodes,
-            rows: many,
-            ..
-        } => {
-            let next = put_verdict(out, b"SAT ", nodes);
-            put_shown(out, next, bytes, many, rows, places)
-        }
-        Answer::Unsat { nodes, .. } => put_verdict(out, b"UNSAT ", nodes),
-        Answer::Spent { budget, .. } => put_verdict(out, b"SPENT ", budget),
-    }
+    let mut writer = Writer::new(out);
+    put_answer(&mut writer, bytes, answer, rows, places);
+    writer.at
 }
 
 // Writes the text of the answer to standard output, by way of a buffer.

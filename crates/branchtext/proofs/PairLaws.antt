@@ -9,21 +9,19 @@ use lib.ListN.{length, drop, length-map}
 use lib.Seq.{drop-drop}
 use Rattle.laws.specs.Lists.{concat_map, cons_if, from}
 use Rattle.laws.proofs.Lists.{from-length}
-use Rattle.writing.specs.Words.{ascii, decimal}
-use Rattle.writing.specs.Written.{Written}
+use Rattle.bytebuffer.specs.declared.Writer.{Writer}
+use Rattle.writing.specs.Wrote.{Wrote}
 use Rattle.writing.proofs.Partly.{Partly, partly_all, partly_next, partly_room}
 use Rattle.writing.proofs.Writing.{more_room, nothing}
+use Rattle.writing.proofs.Wrote.{as_written, by_written}
 use Rattle.branches.specs.Verdicts.{Pair, having_code, pairs_from}
 use Rattle.branches.proofs.PairCount.{few-counted, pair_count}
-use Rattle.branchtext.specs.BranchText.{line, lines, lines_of_pairs, pair_line, pairs_of}
+use Rattle.branchtext.specs.BranchText.{line, lines, lines_of_pairs, name_of, pair_line, pairs_of}
 
 abbrev pair : ℕ → ℕ → Pair
 pair i j = record { lower = i; higher = j }
 
 -- ---- one lower branch
-
-abbrev pub name_of : List ℕ → ℕ → List ℕ
-name_of word i = (word ++ decimal i) ++ ascii " "
 
 pub by_name : (word : List ℕ) (code n i place : ℕ) (cs : List ℕ) → lines (name_of word i) code n (i + 1) place cs ≡ pairs_of word code n i place cs
 unfolding lines pairs_of pair_line
@@ -69,21 +67,23 @@ pairs_next word code m i place cs =
 
 module _ (word : List ℕ) (code many : ℕ) (cs : List ℕ) where
   -- the loop, before branch i
-  pub record Put (out : List ℕ) (at : ℕ) (out' : List ℕ) (end place i : ℕ) : Type 0 where
+  pub record Put (w w' : Writer) (place i : ℕ) : Type 0 where
     pub room : place + pair_count (many - i) ≤ 36
-    pub long : length out' ≡ length out
-    pub puts : Partly (256 * i) (lines_of_pairs word code many 0 many cs) (lines_of_pairs word code (many - i) i place cs) out at out' end
+    pub same : w'.out.ghost_name ≡ w.out.ghost_name
+    pub long : length w'.out.now ≡ length w.out.now
+    pub puts : Partly (256 * i) (lines_of_pairs word code many 0 many cs) (lines_of_pairs word code (many - i) i place cs) w.out.now w.at w'.out.now w'.at
 
-  pub put_none : {out : List ℕ} {at : ℕ} → many ≤ 8 → at ≤ length out → Put out at out at many 0
-  put_none few free =
+  pub put_none : (w : Writer) → many ≤ 8 → Put w w many 0
+  put_none w few =
       let e : many - 0 ≡ many = omega arith in
       record {
         room = subst (λ (k : ℕ). many + pair_count k ≤ 36) (sym e) (omega (arith, few-counted many few));
+        same = refl;
         long = refl;
-        puts = record { text = []; written = more_room (256 * 0) (omega arith) (nothing free); whole = ap (λ (k : ℕ). lines_of_pairs word code k 0 many cs) e };
+        puts = record { text = []; written = more_room (256 * 0) (omega arith) (nothing (omega (arith, w.at_in_bounds))); whole = ap (λ (k : ℕ). lines_of_pairs word code k 0 many cs) e };
       }
 
-  module _ {out : List ℕ} {at : ℕ} {out' : List ℕ} {end place i : ℕ} (s : Put out at out' end place i) where
+  module _ {w w' : Writer} {place i : ℕ} (s : Put w w' place i) where
     module _ (more : i < many) where
       one_less : many - i ≡ suc (many - i - 1)
       one_less = omega arith
@@ -91,9 +91,8 @@ module _ (word : List ℕ) (code many : ℕ) (cs : List ℕ) where
       room_now : place + ((many - i - 1) + pair_count (many - i - 1)) ≤ 36
       room_now = subst (λ (k : ℕ). place + pair_count k ≤ 36) one_less s.room
 
-      pub put_more : {out'' : List ℕ} {end' : ℕ} → many ≤ 8 → Written (32 * (many - i - 1)) out' end (pairs_of word code (many - i - 1) i place cs) out'' end'
-          → Put out at out'' end' (place + (many - i - 1)) (i + 1)
-      put_more {out''} {end'} few w =
+      pub put_more : {w'' : Writer} → many ≤ 8 → Wrote (32 * (many - i - 1)) (pairs_of word code (many - i - 1) i place cs) w' w'' → Put w w'' (place + (many - i - 1)) (i + 1)
+      put_more few p =
           let m : ℕ = many - i - 1 in
           let a : many - (i + 1) ≡ m = omega arith in
           let b : i + 1 ≡ suc i = omega arith in
@@ -103,12 +102,13 @@ module _ (word : List ℕ) (code many : ℕ) (cs : List ℕ) where
           ∙ ap (λ (k : ℕ). pairs_of word code m i place cs ++ lines_of_pairs word code (many - (i + 1)) k (place + m) cs) (sym b) in
           record {
             room = subst (λ (k : ℕ). (place + m) + pair_count k ≤ 36) (sym a) (omega (arith, room_now));
-            long = w.long ∙ s.long;
-            puts = partly_room (256 * (i + 1)) (omega arith) (partly_next (pairs_of word code m i place cs) (lines_of_pairs word code (many - (i + 1)) (i + 1) (place + m) cs) s.puts w l);
+            same = p.same ∙ s.same;
+            long = p.long ∙ s.long;
+            puts = partly_room (256 * (i + 1)) (omega arith) (partly_next (pairs_of word code m i place cs) (lines_of_pairs word code (many - (i + 1)) (i + 1) (place + m) cs) s.puts (as_written p) l);
           }
 
-    pub put_all : i ≡ many → Written (256 * many) out at (lines_of_pairs word code many 0 many cs) out' end
+    pub put_all : i ≡ many → Wrote (256 * many) (lines_of_pairs word code many 0 many cs) w w'
     unfolding lines_of_pairs
     put_all done =
         let m : many - i ≡ 0 = omega arith in
-        more_room (256 * many) (omega arith) (partly_all s.puts (ap (λ (k : ℕ). concat_map (pair_line word) (having_code code (pairs_from k i) (drop place cs))) m))
+        by_written s.same (more_room (256 * many) (omega arith) (partly_all s.puts (ap (λ (k : ℕ). concat_map (pair_line word) (having_code code (pairs_from k i) (drop place cs))) m)))

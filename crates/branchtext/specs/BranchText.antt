@@ -31,6 +31,10 @@ branch_text (Err q) codes = line (ascii "REFUSED ") (number_of q)
 unfoldable pub lines : List ℕ → ℕ → ℕ → ℕ → ℕ → List ℕ → List ℕ
 lines name code n first place cs = concat_map (line name) (having_code code (from n first) (drop place cs))
 
+-- what the lines of the pairs of branch i begin with
+abbrev pub name_of : List ℕ → ℕ → List ℕ
+name_of word i = (word ++ decimal i) ++ ascii " "
+
 -- of the pairs of branch i with the n behind it
 unfoldable pub pairs_of : List ℕ → ℕ → ℕ → ℕ → ℕ → List ℕ → List ℕ
 pairs_of word code n i place cs = concat_map (pair_line word) (having_code code (map (λ j. record { lower = i; higher = j }) (from n (suc i))) (drop place cs))

@@ -3,65 +3,55 @@
 
 ghost use Rattle.std.specs.Prelude.{◌≡◌, ◌+◌, ◌*◌, ◌<◌, ◌≤◌, length};
 ghost use Rattle.laws.specs.Lists.{concat_map, from};
-ghost use Rattle.writing.specs.Written.{Written};
+ghost use Rattle.writing.specs.Wrote.{HasRoom, Wrote};
 ghost use Rattle.rowtext.specs.Rows.{made_text, parts_text, row_line, row_text, row_value, value_text};
 ghost use Rattle.rowtext.specs.Arity.{AritiesFit, arity_in};
 
+use bytebuffer::Writer;
 use tables::TypeTable;
 
 // How many parts a message of this type and variant has.
-fn arity(types: TypeTable, t: u32, v: u32) -> usize
-    requires { AritiesFit types }
-    ensures { result ≡ arity_in types t v }
+fn arity(types: &TypeTable, t: u32, v: u32) -> usize
+    requires { AritiesFit types.now }
+    ensures { result ≡ arity_in types.now t v }
 {
     if 6 <= t {
         return 0;
     }
-    let variants = types.variants;
-    if variants[t as usize] as u32 <= v {
+    if types.variants[t as usize] as u32 <= v {
         return 0;
     }
-    let first = types.first;
-    let arities = types.arities;
-    arities[first[t as usize] as usize + v as usize] as usize
+    types.arities[types.first[t as usize] as usize + v as usize] as usize
 }
 
 // So many parts of a row, if it has any, from number `j` on.
-fn put_parts(out: &mut [u8], at: usize, rows: &[i32], j: usize, many: usize) -> usize
+fn put_parts(out: &mut Writer, rows: &[i32], j: usize, many: usize)
     requires many_bound { (many ≤ 3) × (j < 18446744073709551612) }
-    requires at_in_bounds { at + 42 ≤ length out.old }
-    ensures { Written 42 out.old at (parts_text rows.now j many) out.new result }
+    requires has_room { HasRoom 42 out.old }
+    ensures { Wrote 42 (parts_text rows.now j many) out.old out.new }
 {
     if many == 0 {
-        return at;
+        return;
     }
-    let mut next = writing::put_bytes(out, at, b" parts");
+    writing::put_bytes(out, b" parts");
     for p in 0..many {
-        next = writing::put_number_at(out, next, rows, j + p);
+        writing::put_number_at(out, rows, j + p);
     }
-    next
 }
 
 // A message with this tag: "A message of type t and variant v has 16 × t + v, then the rows of its parts", here from number
 // `j` on.
-fn put_message(
-    out: &mut [u8],
-    at: usize,
-    types: TypeTable,
-    rows: &[i32],
-    j: usize,
-    tag: u32,
-) -> usize
-    requires arities_fit { AritiesFit types }
+fn put_message(out: &mut Writer, types: &TypeTable, rows: &[i32], j: usize, tag: u32)
+    requires arities_fit { AritiesFit types.now }
     requires j_bound { j < 18446744073709551612 }
-    requires at_in_bounds { at + 77 ≤ length out.old }
-    ensures { Written 77 out.old at (made_text (arity_in types) rows.now j tag) out.new result }
+    requires has_room { HasRoom 77 out.old }
+    ensures { Wrote 77 (made_text (arity_in types.now) rows.now j tag) out.old out.new }
 {
     let t = tag / 16;
     let v = tag % 16;
-    let typed = writing::put_named(out, at, b" type ", t);
-    let next = writing::put_named(out, typed, b" variant ", v);
-    put_parts(out, next, rows, j, arity(types, t, v))
+    writing::put_named(out, b" type ", t);
+    writing::put_named(out, b" variant ", v);
+    put_parts(out, rows, j, arity(types, t, v));
 }
 
 // The value of a number's row, whose two numbers lie from `j` on.
@@ -76,48 +66,47 @@ fn row_value(rows: &[i32], j: usize) -> i64
 
 // A number of this type: "A number's row holds −1 − t, then the low 32 bits as a signed number, then the value divided by
 // 4,294,967,296 rounded down", here from number `j` on.
-fn put_valued(out: &mut [u8], at: usize, rows: &[i32], j: usize, t: u32) -> usize
+fn put_valued(out: &mut Writer, rows: &[i32], j: usize, t: u32)
     requires j_bound { j < 18446744073709551612 }
-    requires at_in_bounds { at + 77 ≤ length out.old }
-    ensures { Written 77 out.old at (value_text rows.now j t) out.new result }
+    requires has_room { HasRoom 77 out.old }
+    ensures { Wrote 77 (value_text rows.now j t) out.old out.new }
 {
-    let typed = writing::put_named(out, at, b" type ", t);
-    let next = writing::put_bytes(out, typed, b" number ");
-    writing::put_value(out, next, row_value(rows, j))
+    writing::put_named(out, b" type ", t);
+    writing::put_bytes(out, b" number ");
+    writing::put_value(out, row_value(rows, j));
 }
 
 // What row i says, which lies from number `j` on.
-fn put_row_text(out: &mut [u8], at: usize, types: TypeTable, rows: &[i32], j: usize) -> usize
-    requires arities_fit { AritiesFit types }
+fn put_row_text(out: &mut Writer, types: &TypeTable, rows: &[i32], j: usize)
+    requires arities_fit { AritiesFit types.now }
     requires j_bound { j < 18446744073709551611 }
-    requires at_in_bounds { at + 77 ≤ length out.old }
-    ensures { Written 77 out.old at (row_text (arity_in types) rows.now j) out.new result }
+    requires has_room { HasRoom 77 out.old }
+    ensures { Wrote 77 (row_text (arity_in types.now) rows.now j) out.old out.new }
 {
     let folded = numbers::fold_signed(writing::number_at(rows, j));
     if folded % 2 == 0 {
-        return put_message(out, at, types, rows, j + 1, folded / 2);
+        put_message(out, types, rows, j + 1, folded / 2);
+    } else {
+        put_valued(out, rows, j + 1, folded / 2);
     }
-    put_valued(out, at, rows, j + 1, folded / 2)
 }
 
-fn put_row(out: &mut [u8], at: usize, types: TypeTable, rows: &[i32], i: u32) -> usize
-    requires arities_fit { AritiesFit types }
-    requires at_in_bounds { at + 96 ≤ length out.old }
-    ensures { Written 96 out.old at (row_line (arity_in types) rows.now i) out.new result }
+fn put_row(out: &mut Writer, types: &TypeTable, rows: &[i32], i: u32)
+    requires arities_fit { AritiesFit types.now }
+    requires has_room { HasRoom 96 out.old }
+    ensures { Wrote 96 (row_line (arity_in types.now) rows.now i) out.old out.new }
 {
-    let named = writing::put_named(out, at, b"row ", i);
-    let next = put_row_text(out, named, types, rows, 4 * (i as usize));
-    writing::put_bytes(out, next, b"\n")
+    writing::put_named(out, b"row ", i);
+    put_row_text(out, types, rows, 4 * (i as usize));
+    writing::put_bytes(out, b"\n");
 }
 
-pub fn put_rows(out: &mut [u8], at: usize, types: TypeTable, rows: &[i32], many: u32) -> usize
-    requires arities_fit { AritiesFit types }
-    requires many_in_bounds { at + 96 * many ≤ length out.old }
-    ensures { Written (96 * many) out.old at (concat_map (row_line (arity_in types) rows.now) (from many 0)) out.new result }
+pub fn put_rows(out: &mut Writer, types: &TypeTable, rows: &[i32], many: u32)
+    requires arities_fit { AritiesFit types.now }
+    requires has_room { HasRoom (96 * many) out.old }
+    ensures { Wrote (96 * many) (concat_map (row_line (arity_in types.now) rows.now) (from many 0)) out.old out.new }
 {
-    let mut next = at;
     for i in 0..many {
-        next = put_row(out, next, types, rows, i);
+        put_row(out, types, rows, i);
     }
-    next
 }

@@ -2,3 +2,4 @@ pub mod Decimals
 pub mod Writing
 pub mod Signs
 pub mod Partly
+pub mod Wrote

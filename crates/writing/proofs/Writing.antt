@@ -77,10 +77,5 @@ next_turn f a n most w v =
     let room : most * n + most ≤ most * (n + 1) = omega arith in
     same_text (sym (one_more f n a) ∙ ap (λ (k : ℕ). concat_map f (from k a)) e) (more_room (most * (n + 1)) room (and_then w v))
 
--- after the last turn
-pub all_turns : (f : ℕ → List ℕ) (a most : ℕ) {n many : ℕ} {out : List ℕ} {at : ℕ} {out' : List ℕ} {end : ℕ} → n ≡ many
-    → Written (most * n) out at (concat_map f (from n a)) out' end → Written (most * many) out at (concat_map f (from many a)) out' end
-all_turns f a most {out = out} {at = at} {out' = out'} {end = end} e w = subst (λ (k : ℕ). Written (most * k) out at (concat_map f (from k a)) out' end) e w
-
 pub from_zero : (n : ℕ) → n ≡ 0 + n
 from_zero n = omega arith

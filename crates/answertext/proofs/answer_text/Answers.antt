@@ -1,34 +1,16 @@
--- `answer_text`: what is matched is the answer. Assumes nothing.
-use mathlib.Core.Path.{ap}
+-- `answer_text`: the writer begins at the start of the buffer. Assumes nothing.
+use Rattle.std.proofs.Common.{rules}
+use mathlib.Core.Path.{ap, ◌∙◌}
 use native.Mathlib.Omega.{arith}
-use Rattle.guard.specs.Answer.{rows_of}
-use Rattle.guard.specs.File.{file}
-use Rattle.guard.specs.Limits.{base}
-use Rattle.answertext.specs.Text.{answer_text}
-use Rattle.answertext.proofs.AnswerKnown.{of_known}
-use Rattle.writing.proofs.Writing.{and_then}
+use lib.ListN.{length}
+use Rattle.writing.proofs.Wrote.{from_start}
 use Rattle.answertext.proofs.answer_text.Goals as goal
 
-pub put_shown-requires : goal.put_shown-requires
-unfolding rows_of
-put_shown-requires c = omega (arith, ap rows_of c.in-Sat.is)
+pub put_answer-requires : goal.put_answer-requires
+put_answer-requires c = let new = c.new-writer.ensures in omega (arith, new.at, ap length new.out)
 
-pub returns-in-Refused : goal.returns-in-Refused
-unfolding answer_text rows_of
-returns-in-Refused c = let a = c.args in
-    of_known (file base a.bytes.now) a.rows.now a.places.now a.answer _ c.in-Refused.is (omega arith) c.put_verdict.ensures
-
-pub returns-in-Sat : goal.returns-in-Sat
-unfolding answer_text rows_of
-returns-in-Sat c = let a = c.args in
-    of_known (file base a.bytes.now) a.rows.now a.places.now a.answer _ c.in-Sat.is (omega arith) (and_then c.put_verdict-next.ensures c.put_shown.ensures)
-
-pub returns-in-Unsat : goal.returns-in-Unsat
-unfolding answer_text rows_of
-returns-in-Unsat c = let a = c.args in
-    of_known (file base a.bytes.now) a.rows.now a.places.now a.answer _ c.in-Unsat.is (omega arith) c.put_verdict-in-Unsat.ensures
-
-pub returns-in-Spent : goal.returns-in-Spent
-unfolding answer_text rows_of
-returns-in-Spent c = let a = c.args in
-    of_known (file base a.bytes.now) a.rows.now a.places.now a.answer _ c.in-Spent.is (omega arith) c.put_verdict-in-Spent.ensures
+pub returns : goal.returns
+returns c = let new = c.new-writer.ensures in
+    let p = from_start new.out new.at c.put_answer.ensures in
+    let same = c.put_answer.ensures.same ∙ new.same in
+    search (rules, p, same)

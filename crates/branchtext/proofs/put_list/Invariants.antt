@@ -3,4 +3,4 @@ use Rattle.branchtext.proofs.ListLaws.{Put}
 use Rattle.branchtext.proofs.put_list.Given as goal
 
 abbrev pub invariant-loop-k : goal.invariant-loop-k
-invariant-loop-k l = Put l.name l.code l.n l.first l.place l.codes l.initial.out l.at l.out l.next l.k
+invariant-loop-k l = Put l.name l.code l.n l.first l.place l.codes l.initial.out l.out l.k

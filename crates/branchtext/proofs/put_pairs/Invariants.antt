@@ -4,4 +4,4 @@ use Rattle.branchtext.proofs.PairLaws.{Put}
 use Rattle.branchtext.proofs.put_pairs.Given as goal
 
 abbrev pub invariant-loop-i : goal.invariant-loop-i
-invariant-loop-i l = Put l.word l.code l.many l.codes l.initial.out l.at l.out l.next l.place l.i
+invariant-loop-i l = Put l.word l.code l.many l.codes l.initial.out l.out l.place l.i

@@ -7,7 +7,7 @@ use mir.Facts.{to_z-of_z}
 use mir.Syntax.{w64}
 use Rattle.rowtext.specs.Rows.{value_text}
 use Rattle.writing.specs.Words.{ascii, named, signed}
-use Rattle.writing.proofs.Writing.{and_then, more_room, same_text}
+use Rattle.writing.proofs.Wrote.{and_then, more_room, same_text}
 use Rattle.rowtext.proofs.put_valued.Goals as goal
 
 pub returns : goal.returns
@@ -15,4 +15,4 @@ unfolding value_text
 returns c = let a = c.args in
     let z = c.row_value in
     same_text (ap (λ (y : ℤ). named " type " a.t ++ ascii " number " ++ signed y) (to_z-of_z {w = w64} (record { sfits = z.type_inv }) ∙ z.ensures))
-    (more_room 77 (omega arith) (and_then (and_then c.put_named-typed.ensures c.put_bytes-next.ensures) c.put_value.ensures))
+    (more_room 77 (omega arith) (and_then (and_then c.put_named.ensures c.put_bytes.ensures) c.put_value.ensures))

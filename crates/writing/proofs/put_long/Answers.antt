@@ -1,7 +1,7 @@
 -- `put_long`: the digits are the fewest. Assumes nothing.
 use native.Mathlib.Omega.{arith}
 use mathlib.Core.Path.{◌∙◌}
-use Rattle.writing.proofs.Writing.{more_room, same_text}
+use Rattle.writing.proofs.Wrote.{more_room, same_text}
 use Rattle.writing.proofs.Decimals.{decimal_digits, nineteen_digits}
 use Rattle.writing.proofs.put_long.Goals as goal
 
