@@ -7,15 +7,15 @@ use native.Mathlib.Omega.{arith}
 use lib.ListN.{length, drop, get_or, set, length-drop}
 use lib.Seq.{drop-cons}
 use Rattle.laws.proofs.Lists.{length-nil}
-use Rattle.guard.specs.Guard.{Literal}
+use Rattle.guard.specs.Guard.{Guard, Literal}
 use Rattle.tables.specs.declared.LiteralTable.{LiteralTable}
 use Rattle.writing.specs.Written.{Written}
 use Rattle.writing.proofs.Partly.{Partly, one_byte, partly_all, partly_next, partly_none, partly_room}
 use Rattle.writing.proofs.Writing.{more_room}
-use Rattle.verdictcodes.specs.Codes.{code_for}
+use Rattle.verdictcodes.specs.Codes.{code_for, with_more}
 use Rattle.branches.specs.Procedure.{Procedure, guard_with}
 use Rattle.branchreader.specs.declared.Procedure as tables
-use Rattle.verdicts.specs.VerdictOn.{VerdictOn}
+use Rattle.verdicts.specs.VerdictOn.{AskedOf}
 use Rattle.branchverdicts.specs.Judging.{Holds, HoldsLines, PutsWith, codes_of}
 use Rattle.branchverdicts.proofs.Asking.{asked, count_held}
 
@@ -42,7 +42,7 @@ module _ (t : tables.Procedure) (first : LiteralTable) (from budget : ℕ) (out 
 
   module _ (out' : List ℕ) (end j : ℕ) (s : Put t first from budget out at out' end j) where
     pub put_next : j < t.many → end < length out' → (second : LiteralTable) (v : ℕ)
-        → ((p : Procedure) → Holds t p → HoldsLines p second (get_or p.branches j [])) → VerdictOn t.types t.rows first second budget v
+        → ((p : Procedure) → Holds t p → HoldsLines p second (get_or p.branches j [])) → ((g : Guard) (more : List Literal) → AskedOf t.types t.rows first second g more → v ≡ code_for budget (with_more g more))
         → Put t first from budget out at (set out' end v) (end + 1) (j + 1)
     put_next more room second v held on =
         record {
@@ -57,7 +57,7 @@ module _ (t : tables.Procedure) (first : LiteralTable) (from budget : ℕ) (out 
         next p ls a b =
             let e : j + 1 ≡ suc j = omega arith in
             let ms : List Literal = get_or p.branches j [] in
-            let is : v ≡ code_for budget (guard_with p (ls ++ ms)) = on.on (guard_with p ls) ms (asked t p a first second ls ms b (held p a)) in
+            let is : v ≡ code_for budget (guard_with p (ls ++ ms)) = on (guard_with p ls) ms (asked t p a first second ls ms b (held p a)) in
             let cut : drop j p.branches ≡ ms ∷ drop (suc j) p.branches = drop-cons p.branches j [] (omega (arith, count_held t p a)) in
             let left : codes_from budget p ls j ≡ (v ∷ []) ++ codes_from budget p ls (j + 1) =
             ap (λ (l : List (List Literal)). codes_of budget p (map (λ ms. ls ++ ms) l)) cut

@@ -25,13 +25,10 @@ fn put_with(
     requires from_in_bounds { at + (t.many - from) ≤ length out.old }
     ensures { PutsWith t first from budget out.old at result out.new }
 {
-    let types = t.types;
-    let rows = t.rows;
-    let lines = t.lines;
     let mut next = at;
     for j in from..t.many {
-        let second = lines[j];
-        out[next] = verdicts::verdict_on(types, rows, first, second, budget);
+        let second = t.lines[j];
+        out[next] = verdicts::verdict_on(&t.types, &t.rows, &first, &second, budget).code();
         next += 1;
     }
     next

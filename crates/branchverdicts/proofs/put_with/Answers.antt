@@ -1,5 +1,6 @@
 -- `put_with` meets its contract. Invariant: the numbers of the branches before the j-th are put, and those left are the rest of all.
 -- Assumes nothing.
+use mathlib.Core.Path.{◌∙◌}
 use mathlib.Core.List.{[]}
 use native.Mathlib.Omega.{arith}
 use lib.ListN.{get_or}
@@ -16,12 +17,12 @@ pub loop-j-init : goal.loop-j-init
 loop-j-init c = let s = c.args in
     put_none s.t s.first s.from s.budget s.out.now s.at (omega (arith, c.requires.from_in_bounds))
 
-pub offset_bounds-lines-j : goal.offset_bounds-lines-j
-offset_bounds-lines-j c = let k = c.requires.taken_with in
+pub offset_bounds-t-j : goal.offset_bounds-t-j
+offset_bounds-t-j c = let k = c.requires.taken_with in
     omega (arith, few c.args.t k.procedure k.holds)
 
-pub bounds-lines-j : goal.bounds-lines-j
-bounds-lines-j c = let k = c.requires.taken_with in
+pub bounds-t-j : goal.bounds-t-j
+bounds-t-j c = let k = c.requires.taken_with in
     omega (arith, few c.args.t k.procedure k.holds)
 
 pub verdict_on-requires : goal.verdict_on-requires
@@ -37,8 +38,8 @@ bounds-out-next c = let l = c.loop-j in
 pub loop-j-preserved : goal.loop-j-preserved
 loop-j-preserved c = let s = c.args in
     let l = c.loop-j in
-    put_next s.t s.first s.from s.budget s.out.now s.at l.out l.next l.j l.invariant (omega arith) (omega (arith, l.invariant.place, l.invariant.long, l.invariant.since, c.requires.from_in_bounds)) (get_or s.t.lines l.j noTable) c.verdict_on.result
-    (λ p h. branch_held s.t p h l.j (omega arith) noTable) c.verdict_on.ensures
+    put_next s.t s.first s.from s.budget s.out.now s.at l.out l.next l.j l.invariant (omega arith) (omega (arith, l.invariant.place, l.invariant.long, l.invariant.since, c.requires.from_in_bounds)) (get_or s.t.lines l.j noTable) c.code.result
+    (λ p h. branch_held s.t p h l.j (omega arith) noTable) (λ g more b. c.code.ensures ∙ c.verdict_on.ensures.on g more b)
 
 pub returns : goal.returns
 returns c = let s = c.args in
