@@ -76,7 +76,7 @@ fn number_of(
     if ruled_out(settled, possible, v as u32) {
         return 2;
     }
-    verdict_on(types, rows, lines, is_line(i, v), budget)
+    verdict_on(&types, &rows, &lines, &is_line(i, v), budget).code()
 }
 
 fn bit_if(test: bool, v: u8) -> u16

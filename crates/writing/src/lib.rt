@@ -1,4 +1,5 @@
 // Words and numbers as text, behind what a writer has written. A text fits: each function asks for room for the longest that it puts.
+// `Display` is no plainer: rows aren't values but places in a lent buffer, and `write!` has an error that a text with room never has.
 #![tactic(auto)]
 
 ghost use Rattle.std.specs.Prelude.{◌≡◌, ◌++◌, ◌+◌, ◌≤◌, pos, length, get_or};

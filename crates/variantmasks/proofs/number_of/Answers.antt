@@ -1,4 +1,5 @@
 -- `number_of` meets its contract. Assumes nothing.
+use mathlib.Core.Path.{◌∙◌}
 use mathlib.Core.List.{[], ◌∷◌}
 use native.Mathlib.Omega.{arith}
 use Rattle.guard.specs.Guard.{Literal.is}
@@ -18,4 +19,4 @@ verdict_on-requires c = record { guard = c.requires.guard; more = is c.args.i c.
 pub returns : goal.returns
 returns c = let s = c.args in
     let out = c.ruled_out in
-    record { is = λ g held h. asked_afresh s.budget s.settled s.possible g s.i s.v out.result out.ensures c.verdict_on.result c.if-ruled_out.false (c.verdict_on.ensures.on g (is s.i s.v ∷ []) (asked_of g held s.i s.v h c.is_line.ensures)) }
+    record { is = λ g held h. asked_afresh s.budget s.settled s.possible g s.i s.v out.result out.ensures c.code.result c.if-ruled_out.false (c.code.ensures ∙ c.verdict_on.ensures.on g (is s.i s.v ∷ []) (asked_of g held s.i s.v h c.is_line.ensures)) }
