@@ -12,7 +12,7 @@ use borrow.Author.Tests.{eq-eqb, ne_eqb}
 use native.Mathlib.Numerals.{add-one}
 use Rattle.laws.proofs.Stores.{set_ind}
 use Rattle.laws.proofs.InPlace.{front-all, front_at, front-next, map_front}
-use Rattle.guard.specs.Closure.{Fact.same, State, add, class_of, holds, merge, merge_unless, rename}
+use Rattle.guard.specs.Closure.{Fact, Fact.same, Fact.within, State, add, class_of, holds, merge, merge_unless, rename}
 use Rattle.classes.specs.Held.{Held, Kept}
 
 module _ (low high : ℕ) where
@@ -71,6 +71,20 @@ rename-there low high (c ∷ cs) small there (suc i) = rename-there low high cs 
 rename-long : (low high : ℕ) (cs : List ℕ) → length (rename low high cs) ≡ length cs
 rename-long low high [] = refl
 rename-long low high (c ∷ cs) = ap suc (rename-long low high cs)
+
+pub held_after : (s : State) (f : Fact) → Held s.classes → Held (add s f).classes
+held_after s (same i j) h = either (eqb (class_of s i) (class_of s j))
+  where
+    either : (b : Bool) → Held (merge_unless b s (class_of s i) (class_of s j)).classes
+    either true = h
+    either false =
+        record {
+          long = rename-long (min (class_of s i) (class_of s j)) (max (class_of s i) (class_of s j)) s.classes ∙ h.long;
+          there = rename-there (min (class_of s i) (class_of s j)) (max (class_of s i) (class_of s j)) s.classes (omega (arith, h.there i, h.there j)) h.there;
+        }
+held_after s (within i m) h = h
+
+-- ---- a state as code keeps it
 
 small_cut : (ls : List ℕ) → ((c : ℕ) → get_or ls c 0 < 65536) → (i j m c : ℕ) → get_or (set ls i (bit_and (get_or ls j 0) m)) c 0 < 65536
 small_cut ls h i j m c = set_ind (λ x. x < 65536) ls i (bit_and (get_or ls j 0) m) c (omega arith) (λ q. omega (arith, and_le_l (get_or ls j 0) m, h j)) (h c)

@@ -25,10 +25,11 @@ use Rattle.guard.proofs.ClosureState.{Small}
 use Rattle.models.proofs.Ranks.{complete, is-part, reached_keeps}
 use Rattle.tables.specs.Layout.{flat}
 use Rattle.classes.specs.Held.{Held}
+use Rattle.std.specs.Prelude.{is_some}
 use Rattle.std.specs.declared.option.Option.{Option}
 use Rattle.std.specs.declared.option.Option.TheVariants.{None, Some}
 use Rattle.loops.specs.Lowest.{Finds}
-use Rattle.loops.proofs.Loops.{finds_here, finds_nowhere}
+use Rattle.loops.proofs.Loops.{finds_here, finds_nowhere, finds_test, found-same}
 use Rattle.arrays.specs.Arrays.{fieldless_of, shapes_of, sorts_of}
 use Rattle.arrays.specs.Slots.{active, many_at, sort_at}
 use Rattle.arrays.proofs.DueLaws.{when-is}
@@ -171,3 +172,13 @@ module _ (limits : Limits) (supported : Supported limits) (g : Guard) (ok : Well
   pub named : (r : Option ℕ) → LowestOf (Inside (shapes_of g) (sorts_of g) s) 78 r → Finds (inside_term (table_of g) s) 78 r
   named None w = finds_nowhere (inside_term t s) 78 (outside 78 w)
   named (Some k) (l, c, w) = finds_here (inside_term t s) 78 k l (outside k w) (is-number k l c)
+
+  -- there is one exactly if one is defined
+  pub some-named : (r : Option ℕ) → LowestOf (Inside (shapes_of g) (sorts_of g) s) 78 r → is_some r ≡ any (inside_itself s (builds_at (table_of g) s)) (table_of g).terms
+  unfolding inside_term
+  some-named r w =
+      finds_test (inside_term t s) 78 r (named r w)
+      ∙ found-same (inside_itself s bs) t.terms (inside_term t s) 78 (λ x m e. (x.term, (sorts_have.slot x m).0, is-number x.term (sorts_have.slot x m).0 (inside_is x m e))) back
+    where
+      back : (k : ℕ) → k < 78 → inside_term t s k ≡ true → (x : Term) × Memᴰ x t.terms × (inside_itself s bs x ≡ true)
+      back k h e = let (a, m, q) = any_some (test k) t.terms e in (a, m, and_right (eqb a.term k) _ q)

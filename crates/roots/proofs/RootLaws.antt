@@ -69,6 +69,10 @@ module _ (tables : Tables) (p : Problem) (ep : p ≡ problem_by tables) (g : Gua
   unfolding guard_tables
   few-lines-here = rw is (few-lines ok.limits ok.supported g ok.well_formed)
 
+  -- all of these
+  pub arrays_fit : ShapesFit p.shapes × ReadsFit p.reads × SortsFit p.sorts × LinesFit tables.literals.terms tables.literals.others × (tables.literals.many ≤ 64)
+  arrays_fit = (shapes-fit-here, reads-fit-here, sorts-fit-here, lines-fit-here, few-lines-here)
+
   module _ (i : Instance) (reads : List ℕ) (l : LooksAt tables p i reads) where
     pub arrays_of : ArraysOf g i reads
     unfolding problem_of guard_tables
