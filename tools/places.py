@@ -101,7 +101,7 @@ def point_4b(crate, text):
 def point_4c(crate, text):
     """4c: tests for one variant written as a match."""
     for name, head, body in functions(text):
-        if re.search(r"^is_(open|closed|unsat)$", name) and "match" in body:
+        if re.search(r"^is_(open|closed|unsat)$", name) and "match " in body:
             yield name
 
 
