@@ -1,4 +1,4 @@
--- The added line by columns is that of document 01, and behind the guard's own in the table. Assumes nothing.
+-- The added line by columns is that of document 01, and behind the guard's own in the table; no question has number 0. Assumes nothing.
 use mathlib.Core.Path.{◌≡◌, refl, ap, sym, ◌∙◌}
 use mathlib.Core.Bool.{Bool, true, false}
 use mathlib.Core.List.{List, [], ◌∷◌, ◌++◌}
@@ -7,13 +7,15 @@ use native.Mathlib.Omega.{arith}
 use lib.Dec.{ltb}
 use lib.ListN.{length, get_or, length-append, set, get_or-eq_default}
 use borrow.Author.Tests.{le-ltb, lt-ltb, ltb-false, ltb-true}
-use Rattle.guard.specs.File.{literal}
+use Rattle.guard.specs.File.{bytes, literal}
 use Rattle.guard.specs.Grammar.{ended}
 use Rattle.guard.specs.Guard.{Guard, Literal, Row, no_row, type_at, type_of}
 use Rattle.guard.specs.Limits.{base}
-use Rattle.guard.specs.Number.{Parsed, Parsed.accepted, Parsed.refused, Parser, ◌>>=◌, ◌>>◌, and_then, ask, return}
+use Rattle.guard.specs.Number.{Parsed, Parsed.accepted, Parsed.refused, Parser, ◌>>=◌, ◌>>◌, and_then, ask, return, value_width}
 use Rattle.guard.specs.Types.{Types}
 use Rattle.guard.proofs.Accepted.{row_type}
+use Rattle.guard.proofs.Refusals.{asks_asked, asks_bind, asks_ended, asks_literal, asks_return}
+use Rattle.numbers.proofs.NumberLaws.{question_of_lem, unsigned-question}
 use Rattle.tables.specs.Layout.{literal_kind, literal_other, literal_table, literal_term, row_table, type_table}
 use Rattle.tables.specs.declared.LiteralTable.{LiteralTable}
 use Rattle.tables.specs.declared.RowTable.{RowTable}
@@ -25,6 +27,7 @@ use Rattle.literalkinds.specs.declared.Literal as row
 use Rattle.literalreader.proofs.LiteralLaws.{kind-in, other-in, term-in}
 use Rattle.literalreader.proofs.LiteralReaderLaws.{literal-is}
 use Rattle.verdictcodes.specs.Codes.{with_more}
+use Rattle.summaries.specs.AddedLine.{added_line}
 use Rattle.summaries.specs.InTables.{InTables}
 use Rattle.addedline.specs.LineRead.{added_table}
 
@@ -120,3 +123,10 @@ module _ {types : TypeTable} {rows : RowTable} {lines : LiteralTable} (g : Guard
         let t = column-set 0 literal_term 64 lines.terms g.literals l lines.many x.term (ap (λ (t : LiteralTable). t.terms) held.lines_of) (sym many-lines) (omega arith) (term-in x) in
         let o = column-set 0 literal_other 64 lines.others g.literals l lines.many x.other (ap (λ (t : LiteralTable). t.others) held.lines_of) (sym many-lines) (omega arith) (other-in x) in
         cc
+
+-- no question has number 0
+pub line-question : (g : Guard) (line : List ℕ) (q : ℕ) → added_line g line ≡ refused q → 0 < q
+line-question g =
+    asks_asked 4 (ltb (length g.literals) 32) _ (omega arith)
+    (asks_bind (literal g.types g.rows) _ (asks_literal bytes unsigned-question (question_of_lem value_width (omega arith)) g.types g.rows)
+    (λ l. asks_bind ended _ asks_ended (λ u. asks_return (with_more g (l ∷ [])))))

@@ -14,7 +14,7 @@ ghost use Rattle.branchreader.specs.BranchReader.{branches_by, in_branches, in_t
 use guard::Question;
 use headreader::read_head;
 use literalreader::read_lines;
-use numbers::{Read, read_below};
+use numbers::{Read, read_asked};
 use tables::{LiteralTable, RowTable, TypeTable};
 
 // The branches, and the table of the lines of each.
@@ -51,7 +51,7 @@ pub fn no_lines() -> LiteralTable
 fn read_count(bytes: &[u8], at: usize) -> Result<Read<u32>, Question>
     ensures { Reads (branch_count (drop at bytes.now)) bytes.now result }
 {
-    let n = read_below(bytes, at, 9, Question::BranchCount)?;
+    let n = read_asked(bytes, at, 9, Question::BranchCount)?;
     if n.value == 0 {
         return Err(Question::BranchCount);
     }

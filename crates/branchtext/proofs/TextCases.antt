@@ -4,7 +4,6 @@ use mathlib.Core.Path.{◌≡◌, refl}
 use mathlib.Core.List.{[], ◌∷◌}
 use lib.ListN.{replicate}
 use Rattle.std.specs.Prelude.{Ok, Err}
-use Rattle.guard.specs.declared.Question.TheVariants.{BranchCount}
 use Rattle.branches.specs.Verdicts.{lists_of}
 use Rattle.writing.specs.Words.{ascii, decimal}
 use Rattle.branchtext.specs.BranchText.{branch_text, line, lists_text, pair_line}
@@ -28,6 +27,6 @@ unfolding decimal line lists_of lists_text pair_line
 in_turn = refl
 
 -- "or REFUSED and its number"
-pub refused_text : branch_text (Err BranchCount) (replicate 36 0) ≡ ascii "REFUSED 19\n"
+pub refused_text : branch_text (Err 19) (replicate 36 0) ≡ ascii "REFUSED 19\n"
 unfolding decimal line lists_of lists_text pair_line
 refused_text = refl

@@ -1,8 +1,6 @@
 -- What `branchdesk` prints, byte by byte. Assumes nothing: definitions. Quoted sentences are document 02's, of request #113.
 use Rattle.std.specs.Prelude.{List, ◌++◌, map, ℕ, suc, drop, Result, Ok, Err}
 use Rattle.laws.specs.Lists.{concat_map, from}
-use Rattle.guard.specs.Question.{number_of}
-use Rattle.guard.specs.declared.Question.{Question}
 use Rattle.writing.specs.Words.{ascii, decimal}
 use Rattle.branches.specs.Verdicts.{Lists, Pair, having_code, lists_of, pairs_from}
 
@@ -21,9 +19,9 @@ lists_text l =
     ++ concat_map (pair_line (ascii "spent ")) l.spent_pairs
 
 -- "or REFUSED and its number"
-abbrev pub branch_text : Result ℕ Question → List ℕ → List ℕ
+abbrev pub branch_text : Result ℕ ℕ → List ℕ → List ℕ
 branch_text (Ok many) codes = lists_text (lists_of many codes)
-branch_text (Err q) codes = line (ascii "REFUSED ") (number_of q)
+branch_text (Err q) codes = line (ascii "REFUSED ") q
 
 -- ---- the lines of a list, from codes that stand from a place on
 

@@ -9,7 +9,6 @@ ghost use Rattle.writing.specs.Written.{Written};
 ghost use Rattle.branchtext.specs.BranchText.{branch_text, line, lines, lines_of_pairs, lists_text, name_of, pairs_of};
 
 use bytebuffer::Writer;
-use guard::Question;
 
 // A number after its words, and the end of the line.
 fn put_line(out: &mut Writer, name: &[u8], n: u32)
@@ -91,8 +90,8 @@ fn put_lists(out: &mut Writer, codes: &[u8], many: u32)
     put_pairs(out, b"spent ", codes, many, 3);
 }
 
-// The text for what a call answered, which is how many branches there are, and for their codes.
-fn put_text(out: &mut Writer, answer: Result<usize, Question>, codes: &[u8])
+// The text for what a call answered, which is how many branches there are or the number of a question, and for their codes.
+fn put_text(out: &mut Writer, answer: Result<usize, u32>, codes: &[u8])
     requires many_bound { IfOk answer (λ n. n ≤ 8) }
     requires in_bounds { 36 ≤ length codes.now }
     requires has_room { HasRoom 4608 out.old }
@@ -100,12 +99,12 @@ fn put_text(out: &mut Writer, answer: Result<usize, Question>, codes: &[u8])
 {
     match answer {
         Ok(many) => put_lists(out, codes, many as u32),
-        Err(q) => put_line(out, b"REFUSED ", q.number()),
+        Err(q) => put_line(out, b"REFUSED ", q),
     }
 }
 
 // The same from the start of a buffer on; its length.
-pub fn branch_text(answer: Result<usize, Question>, codes: &[u8], out: &mut [u8]) -> usize
+pub fn branch_text(answer: Result<usize, u32>, codes: &[u8], out: &mut [u8]) -> usize
     requires many_bound { IfOk answer (λ n. n ≤ 8) }
     requires in_bounds { 36 ≤ length codes.now }
     requires in_bounds_2 { 4608 ≤ length out.old }

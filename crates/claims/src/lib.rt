@@ -19,7 +19,7 @@ use tables::LiteralTable;
 fn is_empty(state: &State, sorts: &Sorts, x: u32) -> bool
     ensures { Tells (EmptyTerm sorts.now.sorts sorts.now.full state.now x) result }
 {
-    match term_of(sorts, x) {
+    match term_of(&sorts.sorts, x) {
         Some(term) => reasons::is_empty(state, sorts, term),
         None => false,
     }
@@ -33,14 +33,18 @@ fn is_broken(state: &State, lines: &LiteralTable, j: u32) -> bool
     if lines.many <= j as usize {
         return false;
     }
-    reasons::is_broken(state, lines, j as usize)
+    reasons::is_broken(state.classes(), lines, j as usize)
 }
 
 fn is_unlike(state: &State, sorts: &Sorts, constants: &Constants, x: u32) -> bool
     ensures { Tells (UnlikeTerm sorts.now.sorts constants.now.sorts constants.now.values state.now.classes x) result }
 {
-    match term_of(sorts, x) {
-        Some(term) => unlikeconstants::holds_unlike(state, constants, state.class_of(term)),
+    match term_of(&sorts.sorts, x) {
+        Some(term) => unlikeconstants::holds_unlike(
+            state.classes(),
+            constants,
+            state.class_of(term),
+        ),
         None => false,
     }
 }
@@ -51,7 +55,7 @@ fn is_inside(state: &State, shapes: &Shapes, sorts: &Sorts, x: u32) -> bool
     if 78 <= x {
         return false;
     }
-    cycles::is_inside(state, shapes, sorts, x as u8)
+    cycles::is_inside(state, shapes, &sorts.sorts, x as u8)
 }
 
 // Whether the node is closed as the entry says.

@@ -6,7 +6,7 @@ ghost use Rattle.std.specs.Prelude.{◌≡◌, ℕ, not, ◌<◌, min, max, leng
 ghost use Rattle.std.specs.Int.Bits.{bit_and};
 ghost use Rattle.guard.specs.Closure.{Fact.same, Fact.within, add, class_of, holds, label_of, rename, same_class};
 ghost use Rattle.guard.proofs.ClosureEnds.{first};
-ghost use Rattle.classes.specs.Held.{Held};
+ghost use Rattle.classes.specs.Held.{Held, state};
 
 use std::marker::Model;
 
@@ -30,6 +30,14 @@ impl Model for State {
     ghost inverse = { λ s. record { classes = s.classes; labels = s.labels } };
 
     ghost invariant = { λ s. Kept s.classes s.labels };
+}
+
+// The class of a term by the classes alone, whatever numbers they are.
+pub fn class_of(classes: &[u8; 96], i: u8) -> u8
+    requires { i < 96 }
+    ensures { result ≡ get_or classes.now i 0 }
+{
+    classes[i as usize]
 }
 
 // Class `high` becomes `low`.
@@ -68,6 +76,21 @@ impl State {
         ensures small { (c : ℕ) → get_or self.now.labels c 0 < 65536 }
     {
         let _ = &self.classes;
+    }
+
+    // A state from its two arrays.
+    pub fn new(classes: [u8; 96], labels: [u16; 96]) -> State
+        requires { Held classes }
+        ensures { result ≡ state classes labels }
+    {
+        State { classes, labels }
+    }
+
+    // The class of each term.
+    pub fn classes(&self) -> &[u8; 96]
+        ensures { result.now ≡ self.now.classes }
+    {
+        &self.classes
     }
 
     // Each term in a class of its own, its label not cut down yet.

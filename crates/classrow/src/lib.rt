@@ -86,7 +86,7 @@ pub fn fixed_row(leaf: &Leaf, at: &[u16; 96], rows: &mut [i32], many: usize, c: 
     if let Some(k) = kinds::shape_of(&leaf.state, &leaf.shapes, c) {
         return shape_row(leaf, at, rows, many, k);
     }
-    if let Some(k) = first_constant(&leaf.state, &leaf.constants, c) {
+    if let Some(k) = first_constant(leaf.state.classes(), &leaf.constants, c) {
         return constant_row(leaf, rows, many, k);
     }
     let y = kinds::single_of(&leaf.state, &leaf.sorts, c);

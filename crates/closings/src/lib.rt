@@ -43,13 +43,13 @@ pub fn closing_of(state: &State, instance: &Instance) -> Option<Closing>
     if let Some(x) = empty_label(state, &instance.sorts) {
         return Some(Closing::EmptyLabel(x as u32));
     }
-    if let Some(j) = broken_line(state, &instance.lines) {
+    if let Some(j) = broken_line(state.classes(), &instance.lines) {
         return Some(Closing::BrokenLine(j as u32));
     }
     if let Some(c) = unlike_constants(state, &instance.constants) {
         return Some(Closing::UnlikeConstants(c as u32));
     }
-    if let Some(x) = inside_itself(state, &instance.shapes, &instance.sorts) {
+    if let Some(x) = inside_itself(state, &instance.shapes, &instance.sorts.sorts) {
         return Some(Closing::InsideItself(x as u32));
     }
     None

@@ -12,7 +12,7 @@ ghost use Rattle.columnfile.specs.Columns.{cell, second, third, width};
 ghost use Rattle.columnreader.specs.Cells.{Holds, ReadsColumn, ReadsColumns};
 
 use guard::Question;
-use numbers::{Read, read_below, read_number};
+use numbers::{Read, read_asked, read_number};
 use tables::TypeTable;
 
 // How many variants a type has; 0 where there is no such type.
@@ -70,7 +70,7 @@ fn read_plain(bytes: &[u8], at: usize) -> Result<Read<u64>, Question>
 fn read_name(bytes: &[u8], at: usize, limit: u32) -> Result<Read<u64>, Question>
     ensures { Reads (name limit (drop at bytes.now)) bytes.now result }
 {
-    let n = read_below(bytes, at, limit, Question::UnknownName)?;
+    let n = read_asked(bytes, at, limit, Question::UnknownName)?;
     Ok(Read {
         value: n.value as u64,
         at: n.at,
@@ -152,7 +152,7 @@ fn read_later(
 fn read_kind(bytes: &[u8], at: usize) -> Result<Read<u64>, Question>
     ensures { Reads (kind (drop at bytes.now)) bytes.now result }
 {
-    let n = read_below(bytes, at, 4, Question::UnknownKind)?;
+    let n = read_asked(bytes, at, 4, Question::UnknownKind)?;
     Ok(Read {
         value: n.value as u64,
         at: n.at,

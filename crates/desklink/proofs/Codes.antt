@@ -13,7 +13,7 @@ use Rattle.branchverdicts.specs.Judging.{count_in}
 use Rattle.recordchecker.specs.Checks.{answer}
 use Rattle.summaries.specs.AddedLine.{question_in}
 use Rattle.summary.specs.Passed.{passed}
-use Rattle.returncodes.specs.Code.{code_of, question_of}
+use Rattle.returncodes.specs.Code.{answer_code, question_of}
 use Rattle.desklink.specs.Links.{judged_code, written_code}
 
 -- ---- calls that write
@@ -23,13 +23,13 @@ module _ (told : Result ℕ ℕ) where
   few-written few (Ok n) e = omega (arith, few n e)
   few-written few (Err q) e = tt
 
-  pub code-written : (r : Result ℕ Question) → Answered told r → code_of r ≡ written_code told
+  pub code-written : (r : Result ℕ Question) → Answered told r → answer_code r ≡ written_code told
   code-written (Ok n) e = sym (ap written_code e)
   code-written (Err q) e = sym (ap written_code e)
 
 -- ---- branches
 
-pub code-judged : (p : Parsed Procedure) (r : Result ℕ Question) → ReadsAll (count_in p) r → code_of r ≡ judged_code p
+pub code-judged : (p : Parsed Procedure) (r : Result ℕ Question) → ReadsAll (count_in p) r → answer_code r ≡ judged_code p
 code-judged (refused k) (Ok n) e = absurd cc
 code-judged (refused k) (Err q) e = let z : k ≡ number_of q = cc in ap judged_code (ap refused (sym z))
 code-judged (accepted p rest) (Ok n) e = cc

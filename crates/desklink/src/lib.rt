@@ -96,7 +96,7 @@ pub extern "C" fn guarddesk_write(list: &[i64], out: &mut [u8]) -> i64
     ensures out_after { out.new ≡ left_by (list_file base list.now) (length out.old) }
 {
     let w = filewriter::write(list, out);
-    returncodes::code_of(w)
+    returncodes::answer_code(w)
 }
 
 // Two guard files as one: the file of a guard that holds where both do, into `out`, zeros behind it. Returns the number of its bytes, or
@@ -107,7 +107,7 @@ pub extern "C" fn guarddesk_merge(first: &[u8], second: &[u8], out: &mut [u8]) -
     ensures out_after { out.new ≡ left_by (merged_file base first.now second.now) (length out.old) }
 {
     let w = merge::merge(first, second, out);
-    returncodes::code_of(w)
+    returncodes::answer_code(w)
 }
 
 // A guard file with its term rows by column, for slow memory, into `out`, zeros behind it. Returns the number of stored bytes, or minus the
@@ -118,7 +118,7 @@ pub extern "C" fn guarddesk_store(bytes: &[u8], out: &mut [u8]) -> i64
     ensures out_after { out.new ≡ left_with stored_bytes (file base bytes.now) (length out.old) }
 {
     let w = store::store(bytes, out);
-    returncodes::code_of(w)
+    returncodes::answer_code(w)
 }
 
 // The guard file back from its stored bytes, into `out`, zeros behind it. Returns the number of its bytes, or minus the number of the first
@@ -129,7 +129,7 @@ pub extern "C" fn guarddesk_restore(stored: &[u8], out: &mut [u8]) -> i64
     ensures out_after { out.new ≡ left_by (restored_file base stored.now) (length out.old) }
 {
     let w = restore::restore(stored, out);
-    returncodes::code_of(w)
+    returncodes::answer_code(w)
 }
 
 // The verdicts on the branches of a procedure and on each pair of them, into `out`: a byte for each branch, then one for each pair, zeros behind them.
@@ -140,7 +140,7 @@ pub extern "C" fn guarddesk_branches(procedure: &[u8], budget: u32, out: &mut [u
     ensures out_after { out.new ≡ left_in budget (length out.old) (asks_of procedure.now (length out.old)) }
 {
     let j = branchverdicts::judge_branches(procedure, budget, out);
-    returncodes::code_of(j)
+    returncodes::answer_code(j)
 }
 
 // The summary of a guard, made anew: 48 numbers in front of `summary`. Returns 0, or the number of the first question that gets a no; then `summary`

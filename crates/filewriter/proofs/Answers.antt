@@ -26,7 +26,7 @@ module _ {A : Type 0} (bytes : A → List ℕ) where
   answers-refused q e n o = (ap (λ (p : Parsed A). answer_by bytes p n) e, o ∙ ap (λ (p : Parsed A). left_with bytes p n) (sym e))
 
   -- by whether the bytes fit
-  by_length : {p : Parsed A} {g : A} {rest : List ℕ} → p ≡ accepted g rest → (n : ℕ) (b : Bool) → leb (length (bytes g)) n ≡ b → answer_by bytes p n ≡ cond b (Ok (length (bytes g))) (Err 14)
+  pub by_length : {p : Parsed A} {g : A} {rest : List ℕ} → p ≡ accepted g rest → (n : ℕ) (b : Bool) → leb (length (bytes g)) n ≡ b → answer_by bytes p n ≡ cond b (Ok (length (bytes g))) (Err 14)
   by_length {g = g} is n b q = ap (λ (x : Parsed A). answer_by bytes x n) is ∙ ap (λ (x : Bool). cond x (Ok (length (bytes g))) (Err 14)) q
 
   module _ {p : Parsed A} {g : A} {rest : List ℕ} (is : p ≡ accepted g rest) (out : List ℕ) {blank : List ℕ} (clear : blank ≡ replicate (length out) 0) {out' : List ℕ} where

@@ -86,7 +86,7 @@ fn type_of(leaf: &Leaf, forms: &Forms, c: u8) -> u8
     requires { ClassFits (open_state (types_in forms.now) leaf.now) c }
     ensures { result ≡ type_for (open_state (types_in forms.now) leaf.now) c }
 {
-    plans::sort_for(&leaf.state, &leaf.sorts, c) - 1
+    plans::sort_for(leaf.state.classes(), &leaf.sorts.sorts, c) - 1
 }
 
 // Free class `c` of variant type `t`.

@@ -17,3 +17,4 @@ pub mod Claims
 pub mod ShownCase
 pub mod FiniteTypes
 pub mod Repeats
+pub mod Refusals

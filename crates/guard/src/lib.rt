@@ -78,3 +78,11 @@ impl Question {
         }
     }
 }
+
+impl From<Question> for u32 {
+    ghost from_gives = { λ q n. n ≡ number_of q };
+
+    fn from(question: Question) -> u32 {
+        question.number()
+    }
+}

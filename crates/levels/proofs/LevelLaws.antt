@@ -1,20 +1,21 @@
 -- Where all shapes are in order and no class is at the bottom, the levels are heights upside down, so ranks fall. Where ranks
 -- fall, no class sinks further than its rank, so none gets to the bottom. Assumes nothing.
-use mathlib.Core.Path.{◌≡◌, refl, ap, ap₂, sym, subst, ◌∙◌}
+use mathlib.Core.Path.{◌≡◌, refl, ap, sym, subst, ◌∙◌}
 use mathlib.Core.Bool.{Bool, true, false, not, false≢true, ◌||◌}
 use mathlib.Core.List.{List, [], ◌∷◌}
 use mathlib.Core.Logic.{◌⊎◌, inl, inr}
 use Prim.Native.Nat.{ℕ, zero, suc, ◌+◌, ◌-◌, ◌≤◌, ◌<◌, min}
-use native.Mathlib.Nat.{add-zero, zero-add}
+use native.Mathlib.Nat.{zero-add}
+use native.Mathlib.Numerals.{add-one}
 use native.Mathlib.Omega.{arith}
 use lib.Dec.{eqb, ltb}
 use lib.ListN.{get_or, get_or-replicate, length, replicate, set}
-use Rattle.std.specs.List.{list_any}
 use borrow.Author.Tests.{eqb-false, eqb-true, ltb-false, ltb-true}
 use Rattle.laws.specs.Lists.{any, from, sum}
 use Rattle.laws.proofs.Bools.{by_test, either}
 use Rattle.laws.proofs.Lists.{any_none, any_some, from_bounds, mem_from}
 use Rattle.laws.proofs.Stores.{set_cases, set_ind, sum-set_le, sum-set_lt}
+use Rattle.loops.proofs.Loops.{any_snoc}
 use Rattle.guard.specs.Closure.{State}
 use Rattle.classes.specs.Held.{Held}
 use Rattle.arrays.specs.Slots.{active, many_at, owner_at, part_at}
@@ -44,21 +45,18 @@ module _ (shapes classes levels : List ℕ) (k : ℕ) where
 
 -- ---- a class at the bottom
 
--- a test of the elements, and of their places
-any_places : (p q : ℕ → Bool) (xs : List ℕ) (a : ℕ) → ((j : ℕ) → j < length xs → q (a + j) ≡ p (get_or xs j 0)) → any q (from (length xs) a) ≡ list_any p xs
-any_places p q [] a h = refl
-any_places p q (x ∷ xs) a h =
-    ap₂ (λ (b c : Bool). b || c) (ap q (sym (add-zero a)) ∙ h 0 (omega arith))
-    (any_places p q xs (suc a) (λ j l. let e : suc a + j ≡ a + suc j = omega arith in ap q e ∙ h (suc j) (omega arith)))
-
 module _ (levels : List ℕ) where
   abbrev zero_at : ℕ → Bool
   zero_at c = eqb (get_or levels c 0) 0
 
-  -- a search for a 0 finds it
-  pub contains_bottomed : length levels ≡ 96 → list_any (λ y. eqb y 0) levels ≡ bottomed levels 96
+  pub none_bottomed : false ≡ bottomed levels 0
   unfolding bottomed
-  contains_bottomed h = sym (ap (λ (n : ℕ). any zero_at (from n 0)) (sym h) ∙ any_places (λ y. eqb y 0) zero_at levels 0 (λ j l. ap zero_at (zero-add j)))
+  none_bottomed = refl
+
+  pub bottomed_next : (n : ℕ) (a : Bool) → a ≡ bottomed levels n → (a || eqb (get_or levels n 0) 0) ≡ bottomed levels (n + 1)
+  unfolding bottomed
+  bottomed_next n a e =
+      ap (λ (b : Bool). b || zero_at n) e ∙ sym (any_snoc zero_at n 0 ∙ ap (λ (j : ℕ). any zero_at (from n 0) || zero_at j) (zero-add n)) ∙ ap (λ (j : ℕ). any zero_at (from j 0)) (sym (add-one n))
 
   is-bottomed : bottomed levels 96 ≡ true → (c : ℕ) × (c < 96) × (get_or levels c 0 ≡ 0)
   unfolding bottomed

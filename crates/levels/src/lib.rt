@@ -58,12 +58,16 @@ fn sink_all(state: &State, shapes: &Shapes, levels: &mut [u8; 96]) -> bool
     any
 }
 
-// Whether a class is at the bottom.
-#[tactic(auto, unfolding(crate::specs::Levels::bottomed))]
+// Whether a class is at the bottom. Every level is looked at, without a way out, so that the compiler can do several at once.
+#[tactic(auto, using(crate::proofs::LevelLaws::none_bottomed, crate::proofs::LevelLaws::bottomed_next))]
 fn is_bottomed(levels: &[u8; 96]) -> bool
     ensures { result ≡ bottomed levels.now 96 }
 {
-    levels.contains(&0)
+    let mut any = false;
+    for c in 0..96 {
+        any |= levels[c] == 0;
+    }
+    any
 }
 
 // Whether a class is a part of itself.

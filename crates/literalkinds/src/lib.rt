@@ -6,7 +6,7 @@ ghost use Rattle.numbers.specs.Reader.{Reads};
 ghost use Rattle.literalkinds.specs.OneLiteral.{EachBelow, ReadsLiteral, numbers_by, literal_by, test_by, two_by};
 
 use guard::Question;
-use numbers::{Read, read_below};
+use numbers::{Read, read_asked};
 
 // The two numbers of a literal: a term, and a second term or a variant.
 #[derive(Clone, Copy)]
@@ -33,8 +33,8 @@ fn read_two_terms(
     requires { rows ≤ 24 }
     ensures { Reads (two_by rows types.now (drop at bytes.now)) bytes.now result }
 {
-    let a = read_below(bytes, at, rows as u32, Question::UnknownName)?;
-    let b = read_below(bytes, a.at, rows as u32, Question::UnknownName)?;
+    let a = read_asked(bytes, at, rows as u32, Question::UnknownName)?;
+    let b = read_asked(bytes, a.at, rows as u32, Question::UnknownName)?;
     if types[a.value as usize] != types[b.value as usize] {
         return Err(Question::TypeMismatch);
     }
@@ -60,12 +60,12 @@ fn read_tested(
     requires each_below_2 { EachBelow 6 types.now }
     ensures { Reads (test_by counts.now rows types.now (drop at bytes.now)) bytes.now result }
 {
-    let a = read_below(bytes, at, rows as u32, Question::UnknownName)?;
+    let a = read_asked(bytes, at, rows as u32, Question::UnknownName)?;
     let many = counts[types[a.value as usize] as usize];
     if many == 0 {
         return Err(Question::TypeMismatch);
     }
-    let b = read_below(bytes, a.at, many as u32, Question::UnknownName)?;
+    let b = read_asked(bytes, a.at, many as u32, Question::UnknownName)?;
     Ok(Read {
         value: Pair {
             term: a.value as u8,
@@ -107,7 +107,7 @@ pub fn read_literal(
     requires each_below_2 { EachBelow 6 types.now }
     ensures { ReadsLiteral (literal_by counts.now rows types.now (drop at bytes.now)) bytes.now result }
 {
-    let k = read_below(bytes, at, 4, Question::UnknownKind)?;
+    let k = read_asked(bytes, at, 4, Question::UnknownKind)?;
     let p = read_numbers(bytes, k.at, counts, rows, types, k.value)?;
     Ok(Read {
         value: Literal {

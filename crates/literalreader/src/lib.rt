@@ -7,7 +7,7 @@ ghost use Rattle.literalkinds.specs.OneLiteral.{literal_by};
 ghost use Rattle.literalreader.specs.LiteralReader.{EachBelow, in_table, lines_by, literals_by};
 
 use guard::Question;
-use numbers::{Read, read_below};
+use numbers::{Read, read_asked};
 use tables::LiteralTable;
 
 // The count of lines, and the lines.
@@ -25,7 +25,7 @@ pub fn read_lines(
     requires each_below_2 { EachBelow 6 types.now }
     ensures { Reads (in_table (lines_by limit (literal_by counts.now rows types.now)) (drop at bytes.now)) bytes.now result }
 {
-    let n = read_below(bytes, at, limit + 1, Question::TooMany)?;
+    let n = read_asked(bytes, at, limit + 1, Question::TooMany)?;
     let many = n.value as usize;
     let mut kinds = [0u8; 64];
     let mut terms = [0u8; 64];

@@ -18,6 +18,7 @@ use Rattle.guard.specs.WellFormed.{WellFormed}
 use Rattle.guard.proofs.Accepted.{accepted-ended, accepted-total, accepted_well_formed}
 use Rattle.guard.proofs.Claims.{at-most_585, base-supported}
 use Rattle.tables.specs.Layout.{flat}
+use Rattle.reader.proofs.TablesRead.{file-question}
 use Rattle.encoding.proofs.Parsers.{not_accepted}
 use Rattle.serialize.specs.Tokens.{bytes_of}
 use Rattle.serialize.proofs.Theorems.{well_formed-file}
@@ -81,6 +82,24 @@ module _ (first second : List ℕ) where
           (λ w. absurd (not_accepted 4 m rest (sym (tests g h true true false t v w) ∙ e))))
           (λ v. absurd (not_accepted 16 m rest (sym (tests g h true false (has_room base (merged g h)) t v refl) ∙ e))))
           (λ t. absurd (not_accepted 15 m rest (sym (tests g h false (same_variables g h) (has_room base (merged g h)) t refl refl) ∙ e)))
+
+  -- a question has its number
+  pub merge-question : (q : ℕ) → merged_file base first second ≡ refused q → ¬ (q ≡ 0)
+  unfolding merged_file
+  merge-question q e z = go (file base first) (file base second) refl refl e
+    where
+      same-question : {k : ℕ} → Path (Parsed Guard) (refused k) (refused q) → k ≡ q
+      same-question e = cc
+
+      go : (p r : Parsed Guard) → file base first ≡ p → file base second ≡ r → merged_by base p r ≡ refused q → ⊥
+      go (refused k) r ep er e = file-question base first k ep (same-question e ∙ z)
+      go (accepted g l) (refused k) ep er e = file-question base second k er (same-question e ∙ z)
+      go (accepted g l) (accepted h k) ep er e =
+          by_test (same_bytes (type_part g.types) (type_part h.types))
+          (λ t. by_test (same_variables g h)
+          (λ v. by_test (has_room base (merged g h)) (λ w. not_accepted q (merged g h) [] (sym e ∙ tests g h true true true t v w)) (λ w. omega (arith, z, same-question (sym (tests g h true true false t v w) ∙ e))))
+          (λ v. omega (arith, z, same-question (sym (tests g h true false (has_room base (merged g h)) t v refl) ∙ e))))
+          (λ t. omega (arith, z, same-question (sym (tests g h false (same_variables g h) (has_room base (merged g h)) t refl refl) ∙ e)))
 
 module _ {first second : List ℕ} {m : Guard} (k : Merges first second m) where
   formed-one : WellFormed base k.one

@@ -90,7 +90,7 @@ fn follow_all(state: &State, shapes: &Shapes, start: Option<u8>, marks: &mut [u8
 }
 
 // Marks the parts of class `start`, if there is one, and of all marked classes, until nothing is new.
-fn follow_parts(state: &State, shapes: &Shapes, start: Option<u8>, marks: &mut [u8; 96])
+pub fn follow_parts(state: &State, shapes: &Shapes, start: Option<u8>, marks: &mut [u8; 96])
     ensures { AllFollowed shapes.now.slots state.now start marks.old marks.new }
 {
     while follow_all(state, shapes, start, marks) {}

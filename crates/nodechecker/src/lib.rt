@@ -38,7 +38,7 @@ pub fn check_node(
             Ok(e.at)
         }
         Entry::Split { term, variant } => {
-            if !splitclaims::splits(state, &instance.sorts, term, variant) {
+            if !splitclaims::splits(state, &instance.sorts.sorts, term, variant) {
                 return Err(Question::FalseEntry);
             }
             let x = term as u8;

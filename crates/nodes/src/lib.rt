@@ -18,7 +18,7 @@ pub fn is_closed(state: &State, instance: &Instance) -> bool
     ensures { result ≡ closed instance.now state.now }
 {
     empty_label(state, &instance.sorts).is_some()
-        || broken_line(state, &instance.lines).is_some()
+        || broken_line(state.classes(), &instance.lines).is_some()
         || unlike_constants(state, &instance.constants).is_some()
         || is_cyclic(state, &instance.shapes)
 }

@@ -1,5 +1,5 @@
 -- What a reader's answer says of a parser of the guard file. Assumes nothing: definitions.
-use Rattle.std.specs.Prelude.{◌≡◌, List, [], ℕ, ◌≤◌, ltb, length, drop, Result, Ok, Err}
+use Rattle.std.specs.Prelude.{◌≡◌, ◌⊎◌, List, [], ℕ, ◌≤◌, ◌<◌, ltb, length, drop, Result, Ok, Err}
 use Rattle.guard.specs.Number.{Parsed, Parsed.accepted, Parsed.refused, Parser, ◌>>=◌, ◌>>◌, ask, return, unsigned}
 use Rattle.guard.specs.Question.{number_of}
 use Rattle.guard.specs.declared.Question.{Question}
@@ -28,3 +28,10 @@ Reads p bytes (Err q) = p ≡ refused (number_of q)
 abbrev pub ReadsAll : {A : Type 0} → Parsed A → Result A Question → Type 0
 ReadsAll p (Ok x) = p ≡ accepted x []
 ReadsAll p (Err q) = p ≡ refused (number_of q)
+
+-- A reader whose parser gives a number has that number, if it is below the limit, and a cursor to what the parser leaves. Else its error is either
+-- what the question that refuses the number becomes, or the caller's own, of a number that is not below the limit.
+abbrev pub ReadsBelow : {E : Type 0} → (Question → E → Type 0) → Parsed ℕ → List ℕ → ℕ → E → Result (Read ℕ) E → Type 0
+ReadsBelow becomes p bytes limit own (Ok r) = Found p bytes r.value r.at × (r.value < limit)
+ReadsBelow becomes p bytes limit own (Err e) =
+    ((q : Question) × (p ≡ refused (number_of q)) × becomes q e) ⊎ ((n : ℕ) × (rest : List ℕ) × (p ≡ accepted n rest) × (limit ≤ n) × (e ≡ own))

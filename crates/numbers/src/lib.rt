@@ -6,7 +6,7 @@
 ghost use Rattle.std.specs.Prelude.{◌≡◌, drop};
 ghost use Rattle.guard.specs.Number.{fold_signed, unsigned};
 ghost use Rattle.guard.specs.Question.{number_of};
-ghost use Rattle.numbers.specs.Reader.{Reads, below};
+ghost use Rattle.numbers.specs.Reader.{Reads, ReadsBelow, below};
 
 use guard::Question;
 
@@ -53,8 +53,24 @@ fn read_short(bytes: &[u8], at: usize) -> Result<Read<u32>, Question>
     read_number(bytes, at)
 }
 
-// The number at `at`, refused by `question` unless it is below `limit`.
-pub fn read_below(
+// The number at `at`, refused by `question` unless it is below `limit`; what refuses the number itself becomes the caller's error.
+pub fn read_below<E: From<Question> + Drop>(
+    bytes: &[u8],
+    at: usize,
+    limit: u32,
+    question: E,
+) -> Result<Read<u32>, E>
+    ensures { ReadsBelow E.from_gives (unsigned (drop at bytes.now)) bytes.now limit question result }
+{
+    let n = read_short(bytes, at)?;
+    if limit <= n.value {
+        return Err(question);
+    }
+    Ok(n)
+}
+
+// The same for a question of documents 01 and 02.
+pub fn read_asked(
     bytes: &[u8],
     at: usize,
     limit: u32,
@@ -62,11 +78,7 @@ pub fn read_below(
 ) -> Result<Read<u32>, Question>
     ensures { Reads (below limit (number_of question) (drop at bytes.now)) bytes.now result }
 {
-    let n = read_short(bytes, at)?;
-    if limit <= n.value {
-        return Err(question);
-    }
-    Ok(n)
+    read_below(bytes, at, limit, question)
 }
 
 // What a signed value is written as. −1 − v fits where −v does not, at the lowest value.

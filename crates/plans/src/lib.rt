@@ -4,7 +4,7 @@
 ghost use Rattle.std.specs.Prelude.{◌≡◌, ◌<◌, ◌≤◌, ◌+◌, get_or};
 ghost use Rattle.tables.specs.Layout.{TypesInRange, types_of};
 ghost use Rattle.loops.specs.Lowest.{Finds};
-ghost use Rattle.plans.specs.Chosen.{free_at, held_at, higher_at, highest_of, is_member, sort_in, variant_in};
+ghost use Rattle.plans.specs.Chosen.{free_at, held_at, higher_at, highest_of, is_member, sort_in, variant_entry, variant_in};
 ghost use Rattle.plans.specs.Fresh.{next_fresh, taken, taken_at};
 
 use classes::State;
@@ -17,27 +17,27 @@ use unlikeconstants::first_constant;
 // ---- types
 
 #[tactic(auto, unfolding(crate::specs::Chosen::is_member))]
-fn is_member(state: &State, sorts: &Sorts, c: u8, y: usize) -> bool
+fn is_member(classes: &[u8; 96], sorts: &[u8; 96], c: u8, y: usize) -> bool
     requires { y < 78 }
-    ensures { result ≡ is_member state.now.classes sorts.now.sorts c y }
+    ensures { result ≡ is_member classes.now sorts.now c y }
 {
-    sorts.sorts[y] != 0 && state.class_of(y as u8) == c
+    sorts[y] != 0 && classes::class_of(classes, y as u8) == c
 }
 
 // The lowest term of class `c`.
 #[tactic(auto, using(loops::proofs::Loops::finds))]
-fn term_in(state: &State, sorts: &Sorts, c: u8) -> Option<usize>
-    ensures { Finds (is_member state.now.classes sorts.now.sorts c) 78 result }
+fn term_in(classes: &[u8; 96], sorts: &[u8; 96], c: u8) -> Option<usize>
+    ensures { Finds (is_member classes.now sorts.now c) 78 result }
 {
-    loops::lowest(78, |y| is_member(state, sorts, c, y))
+    loops::lowest(78, |y| is_member(classes, sorts, c, y))
 }
 
 // The type of class `c`, plus one.
 #[tactic(auto, using(crate::proofs::CodeTests::member_low, crate::proofs::CodeTests::sort_there))]
-pub fn sort_for(state: &State, sorts: &Sorts, c: u8) -> u8
-    ensures { result ≡ sort_in state.now.classes sorts.now.sorts c }
+pub fn sort_for(classes: &[u8; 96], sorts: &[u8; 96], c: u8) -> u8
+    ensures { result ≡ sort_in classes.now sorts.now c }
 {
-    sorts.sorts[term_in(state, sorts, c).unwrap_or(78)]
+    sorts[term_in(classes, sorts, c).unwrap_or(78)]
 }
 
 // ---- free classes
@@ -57,31 +57,41 @@ pub fn is_free(
 {
     marks[c as usize] == 0
         && kinds::shape_of(state, shapes, c).is_none()
-        && first_constant(state, constants, c).is_none()
+        && first_constant(state.classes(), constants, c).is_none()
         && kinds::single_of(state, sorts, c).is_none()
 }
 
 // ---- variants
 
+// Whether variant `v` is in the label and has fields. Those of its type stand from place `start` on.
 #[tactic(auto, unfolding(crate::specs::Chosen::held_at))]
-fn is_held(table: &TypeTable, label: u16, t: u8, v: usize) -> bool
-    requires t_bound { t < 6 }
-    requires v_bound { v < 16 }
-    requires place_bound { get_or table.now.first t 0 + v < 48 }
-    ensures { result ≡ held_at table.now.arities (get_or table.now.first t 0) label v }
+fn is_held(arities: &[u8; 48], start: u8, label: u16, v: usize) -> bool
+    requires { (v < 16) × (start + v < 48) }
+    ensures { result ≡ held_at arities.now start label v }
 {
-    !labels::lacks(label, v as u32) && 0 < table.arities[table.first[t as usize] as usize + v]
+    !labels::lacks(label, v as u32) && 0 < arities[start as usize + v]
 }
 
 // The lowest variant of type `t` with fields in the label; the number of variants if there is none, as the definition has it.
-#[tactic(auto, using(loops::proofs::Loops::finds, crate::proofs::CodeTests::place_fits, crate::proofs::CodeTests::variant_fits, crate::proofs::CodeTests::variant_small, crate::proofs::CodeTests::variant_found))]
+#[tactic(auto, using(loops::proofs::Loops::finds, crate::proofs::CodeTests::variant_small, crate::proofs::CodeTests::variant_found))]
+pub fn variant_in(variants: &[u8; 6], first: &[u8; 6], arities: &[u8; 48], label: u16, t: u8) -> u8
+    requires t_bound { t < 6 }
+    requires t_bound_2 { get_or variants.now t 0 ≤ 16 }
+    requires t_bound_3 { get_or first.now t 0 + get_or variants.now t 0 ≤ 48 }
+    ensures { result ≡ variant_entry variants.now first.now arities.now label t }
+{
+    let many = variants[t as usize] as usize;
+    let start = first[t as usize];
+    loops::lowest(many, |v| is_held(arities, start, label, v)).unwrap_or(many) as u8
+}
+
+// The same for a type of the table.
 pub fn variant_for(table: &TypeTable, label: u16, t: u8) -> u8
     requires types_in_range { TypesInRange table.now }
     requires t_lt_many { t < table.now.many }
     ensures { result ≡ variant_in (types_of table.now) label t }
 {
-    let many = table.variants[t as usize] as usize;
-    loops::lowest(many, |v| is_held(table, label, t, v)).unwrap_or(many) as u8
+    variant_in(&table.variants, &table.first, &table.arities, label, t)
 }
 
 // ---- fresh numbers

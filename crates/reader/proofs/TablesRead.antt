@@ -1,13 +1,20 @@
--- For callers: the tables that are read are those of the guard that the file has, and a question that refuses the tables refuses the file.
--- Assumes nothing.
-use Rattle.std.proofs.Common.{◌≡◌, ◌∙◌, ap, sym, List, [], ℕ}
-use Rattle.guard.specs.File.{file}
+-- For callers: the tables that are read are those of the guard that the file has, a question that refuses the tables refuses the file, and no
+-- question has number 0. Assumes nothing.
+use Rattle.std.proofs.Common.{◌≡◌, ◌∙◌, ap, sym, List, [], ℕ, arith}
+use Rattle.guard.specs.File.{bytes, file}
 use Rattle.guard.specs.Guard.{Guard}
 use Rattle.guard.specs.Limits.{Limits}
-use Rattle.guard.specs.Number.{Parsed, Parsed.accepted, Parsed.refused, and_then, return}
+use Rattle.guard.specs.Number.{Parsed, Parsed.accepted, Parsed.refused, and_then, return, value_width}
+use Rattle.guard.proofs.Refusals.{asks_file_lem}
 use Rattle.numbers.proofs.Mapped.{mapped, mapped_refused}
+use Rattle.numbers.proofs.NumberLaws.{question_of_lem, unsigned-question}
 use Rattle.reader.specs.Reader.{guard_tables, in_tables}
 use Rattle.reader.specs.declared.Tables.{Tables}
+
+-- no question has number 0
+pub file-question : (limits : Limits) (bytes : List ℕ) (q : ℕ) → file limits bytes ≡ refused q → ¬ (q ≡ 0)
+unfolding file
+file-question limits bs q e z = omega (arith, asks_file_lem bytes unsigned-question (question_of_lem value_width (omega arith)) limits bs q e, z)
 
 pub record Taken (limits : Limits) (bytes : List ℕ) (t : Tables) : Type 0 where
   pub guard : Guard

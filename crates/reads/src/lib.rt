@@ -29,7 +29,10 @@ pub fn pass_defaults(state: &mut State, reads: &Reads) -> bool
 {
     let mut changed = false;
     for k in 0..24 {
-        changed |= join_default(state, reads, k);
+        // Not `changed |= ..`: the compiler then carries it through each turn, and the loop is three times as long.
+        if join_default(state, reads, k) {
+            changed = true;
+        }
     }
     changed
 }

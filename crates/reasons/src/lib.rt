@@ -36,25 +36,25 @@ pub fn empty_label(state: &State, sorts: &Sorts) -> Option<u8>
 
 // Whether literal `j` is an unequal line whose two terms are equal.
 #[tactic(auto, unfolding(crate::specs::Reasons::broken_at))]
-pub fn is_broken(state: &State, lines: &LiteralTable, j: usize) -> bool
+pub fn is_broken(classes: &[u8; 96], lines: &LiteralTable, j: usize) -> bool
     requires j_bound { j < 64 }
     requires lines_fit { LinesFit lines.now.terms lines.now.others }
-    ensures { result ≡ broken_at lines.now.kinds lines.now.terms lines.now.others state.now.classes j }
+    ensures { result ≡ broken_at lines.now.kinds lines.now.terms lines.now.others classes.now j }
 {
     if lines.kinds[j] != 1 {
         return false;
     }
-    state.same_class(lines.terms[j], lines.others[j])
+    classes::class_of(classes, lines.terms[j]) == classes::class_of(classes, lines.others[j])
 }
 
 // The lowest unequal line whose two terms are equal.
 #[tactic(auto, using(loops::proofs::Loops::finds))]
-pub fn broken_line(state: &State, lines: &LiteralTable) -> Option<usize>
+pub fn broken_line(classes: &[u8; 96], lines: &LiteralTable) -> Option<usize>
     requires many_bound { lines.now.many ≤ 64 }
     requires lines_fit { LinesFit lines.now.terms lines.now.others }
-    ensures { Finds (broken_at lines.now.kinds lines.now.terms lines.now.others state.now.classes) lines.now.many result }
+    ensures { Finds (broken_at lines.now.kinds lines.now.terms lines.now.others classes.now) lines.now.many result }
 {
-    loops::lowest(lines.many, |j| is_broken(state, lines, j))
+    loops::lowest(lines.many, |j| is_broken(classes, lines, j))
 }
 
 // ---- constants

@@ -12,7 +12,7 @@ use bytebuffer::Writer;
 use datatypes::type_facts;
 use guard::Question;
 use literalreader::read_literals;
-use numbers::read_below;
+use numbers::read_asked;
 use rowreader::read_rows;
 use tables::TypeTable;
 use typereader::read_types;
@@ -32,7 +32,7 @@ fn head_of(stored: &[u8]) -> Result<Head, Question>
     let t = read_types(stored, 6)?;
     let table = t.value;
     type_facts(table)?;
-    let n = read_below(stored, t.at, 25, Question::TooMany)?;
+    let n = read_asked(stored, t.at, 25, Question::TooMany)?;
     Ok(Head {
         at: n.at,
         rows: n.value as usize,
@@ -61,7 +61,7 @@ fn put_restored(types: &TypeTable, rows: &[u8], rest: &[u8], out: &mut [u8]) -> 
     let mut writer = Writer::new(out);
     typewriter::put_types(types, &mut writer)?;
     writer.put(rows)?;
-    writer.put(rest)?;
+    restoredrows::put_bytes(rest, &mut writer)?;
     Some(writer.at)
 }
 

@@ -4,6 +4,7 @@
 
 ghost use Rattle.std.specs.Prelude.{◌<◌, ◌≤◌};
 ghost use Rattle.tables.specs.Layout.{TypesInRange, types_of};
+ghost use Rattle.bytebuffer.specs.Appends.{Appends};
 ghost use Rattle.restoredrows.specs.Restored.{PutsRow, PutsRows, SomeColumns};
 
 use bytebuffer::Writer;
@@ -41,4 +42,16 @@ pub fn put_rows(types: &TypeTable, cells: &[u64; 144], n: usize, out: &mut [u8])
         put_row(types, cells, i, &mut writer)?;
     }
     Some(writer.at)
+}
+
+// Bytes as they stand. They go one by one: a copy of so many at once from one lent buffer to another would ask the caller's program for
+// `memmove`.
+#[tactic(auto, using(crate::proofs::ByteLaws::byte_laws))]
+pub fn put_bytes(bytes: &[u8], out: &mut Writer) -> Option<()>
+    ensures { Appends bytes.now out.old result out.new }
+{
+    for i in 0..bytes.len() {
+        out.put(&[bytes[i]])?;
+    }
+    Some(())
 }

@@ -10,7 +10,7 @@ ghost use Rattle.rowparts.specs.ByTypes.{variable_row, constant_row, built_row, 
 ghost use Rattle.rowparts.specs.RowParts.{Before, row_with};
 
 use guard::Question;
-use numbers::{Read, read_below};
+use numbers::{Read, read_asked};
 use rowparts::Row;
 use tables::TypeTable;
 
@@ -18,7 +18,7 @@ fn read_variable(bytes: &[u8], at: usize, table: TypeTable) -> Result<Read<Row>,
     requires { TypesInRange table }
     ensures { Reads (row_with (types_of table) (variable_row (types_of table)) (drop at bytes.now)) bytes.now result }
 {
-    let t = read_below(bytes, at, table.many as u32, Question::UnknownName)?;
+    let t = read_asked(bytes, at, table.many as u32, Question::UnknownName)?;
     Ok(Read {
         value: Row {
             sort: t.value as u8,
@@ -34,7 +34,7 @@ fn read_constant(bytes: &[u8], at: usize, table: TypeTable) -> Result<Read<Row>,
     requires { TypesInRange table }
     ensures { Reads (row_with (types_of table) (constant_row (types_of table)) (drop at bytes.now)) bytes.now result }
 {
-    let t = read_below(bytes, at, table.many as u32, Question::UnknownName)?;
+    let t = read_asked(bytes, at, table.many as u32, Question::UnknownName)?;
     let variants = rowparts::variants_of(table, t.value as usize);
     if variants != 0 {
         return Err(Question::TypeMismatch);
@@ -61,7 +61,7 @@ fn read_built(
     requires { TypesInRange table × Before table rows types.now }
     ensures { Reads (row_with (types_of table) (built_row (types_of table) (take rows types.now)) (drop at bytes.now)) bytes.now result }
 {
-    let t = read_below(bytes, at, table.many as u32, Question::UnknownName)?;
+    let t = read_asked(bytes, at, table.many as u32, Question::UnknownName)?;
     let variants = rowparts::variants_of(table, t.value as usize);
     if variants == 0 {
         return Err(Question::TypeMismatch);
@@ -81,7 +81,7 @@ fn read_variant_term(
     ensures term { Reads (variant_term_by (types_of table) (take rows types.now) (drop at bytes.now)) bytes.now result }
     ensures earlier { IfOk result (λ r. r.value < rows) }
 {
-    let a = read_below(bytes, at, rows as u32, Question::UnknownName)?;
+    let a = read_asked(bytes, at, rows as u32, Question::UnknownName)?;
     let variants = rowparts::variants_of(table, types[a.value as usize] as usize);
     if variants == 0 {
         return Err(Question::TypeMismatch);

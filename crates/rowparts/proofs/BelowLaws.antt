@@ -1,4 +1,4 @@
--- For callers of `read_below`: a number that is read is below its limit. Assumes nothing.
+-- For callers of `read_asked`: a number that is read is below its limit. Assumes nothing.
 use Rattle.std.proofs.Common.{◌≡◌, ℕ, ◌<◌, List, arith}
 use Rattle.guard.specs.Number.{Parsed.accepted}
 use Rattle.numbers.specs.Reader.{below}

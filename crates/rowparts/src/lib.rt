@@ -10,7 +10,7 @@ ghost use Rattle.rowparts.specs.ByTypes.{built_of, field_of};
 ghost use Rattle.rowparts.specs.RowParts.{Before, variant_number, fields_from, padded_parts, row_with};
 
 use guard::Question;
-use numbers::{Read, read_below};
+use numbers::{Read, read_asked};
 use tables::TypeTable;
 
 // One row: its type, the variant built or read, its parts, and the value of a constant, as in a table of rows.
@@ -59,7 +59,7 @@ fn read_parts(
     let mut parts = [0u8; 3];
     let mut next = at;
     for j in 0..arity {
-        let p = read_below(bytes, next, rows as u32, Question::UnknownName)?;
+        let p = read_asked(bytes, next, rows as u32, Question::UnknownName)?;
         if types[p.value as usize] != sorts[3 * w + j] {
             return Err(Question::TypeMismatch);
         }
@@ -84,7 +84,7 @@ pub fn built_of(
     requires { TypesInRange table × Before table rows types.now × (t < table.many) }
     ensures { Reads (row_with (types_of table) (built_of (types_of table) (take rows types.now) t) (drop at bytes.now)) bytes.now result }
 {
-    let v = read_below(bytes, at, variants_of(table, t), Question::UnknownName)?;
+    let v = read_asked(bytes, at, variants_of(table, t), Question::UnknownName)?;
     let w = variant_number(table, t, v.value as usize);
     let arity = table.arities[w] as usize;
     let p = read_parts(bytes, v.at, rows, types, &table.sorts, w, arity)?;
@@ -111,10 +111,10 @@ pub fn field_of(
     requires { TypesInRange table × (t < table.many) }
     ensures { Reads (row_with (types_of table) (field_of (types_of table) t term) (drop at bytes.now)) bytes.now result }
 {
-    let v = read_below(bytes, at, variants_of(table, t), Question::UnknownName)?;
+    let v = read_asked(bytes, at, variants_of(table, t), Question::UnknownName)?;
     let w = variant_number(table, t, v.value as usize);
     let arity = table.arities[w] as u32;
-    let p = read_below(bytes, v.at, arity, Question::UnknownName)?;
+    let p = read_asked(bytes, v.at, arity, Question::UnknownName)?;
     let place = 3 * w + p.value as usize;
     Ok(Read {
         value: Row {

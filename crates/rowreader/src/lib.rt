@@ -9,7 +9,7 @@ ghost use Rattle.tables.specs.Layout.{TypesInRange, row_table, types_of};
 ghost use Rattle.rowreader.specs.RowReader.{counted_rows, stored, table_with};
 
 use guard::Question;
-use numbers::{Read, read_below};
+use numbers::{Read, read_asked};
 use rowparts::Row;
 use tables::{RowTable, TypeTable};
 
@@ -59,7 +59,7 @@ fn read_n_rows(
     let mut rows = no_rows();
     let mut next = at;
     for i in 0..n {
-        let k = read_below(bytes, next, 4, Question::UnknownKind)?;
+        let k = read_asked(bytes, next, 4, Question::UnknownKind)?;
         let r = rowkinds::read_row(bytes, k.at, k.value, i, &rows.types, table)?;
         rows = store(rows, k.value as u8, r.value);
         next = r.at;
@@ -80,6 +80,6 @@ pub fn read_rows(
     requires { TypesInRange table × (limit ≤ 24) }
     ensures { Reads (table_with (types_of table) (counted_rows limit (types_of table)) (drop at bytes.now)) bytes.now result }
 {
-    let n = read_below(bytes, at, limit + 1, Question::TooMany)?;
+    let n = read_asked(bytes, at, limit + 1, Question::TooMany)?;
     read_n_rows(bytes, n.at, n.value as usize, table)
 }

@@ -45,7 +45,7 @@ lowest_most m = go (filter (λ v. not (eqb (bit m v) 0)) (from variant_limit 0))
 -- ---- a term
 
 module _ (sorts fieldless : List ℕ) (s : State) (x : ℕ) where
-  lacks-fieldless : (v : ℕ) → eqb (bit (fieldless_at sorts fieldless x) v) 0 ≡ true → false ≡ only_is sorts fieldless s x v
+  pub lacks-fieldless : (v : ℕ) → eqb (bit (fieldless_at sorts fieldless x) v) 0 ≡ true → false ≡ only_is sorts fieldless s x v
   unfolding only_is
   lacks-fieldless v e = sym (ap (λ (b : Bool). not b && alone s x v) e)
 

@@ -5,14 +5,13 @@ ghost use Rattle.std.specs.Prelude.{◌≡◌};
 ghost use Rattle.splitclaims.specs.SplitClaims.{TermOf, splits_by};
 
 use classes::State;
-use labelled::Sorts;
 
 // The term of this number, if there is one.
 #[tactic(auto, unfolding(crate::specs::SplitClaims::is_term))]
-pub fn term_of(sorts: &Sorts, x: u32) -> Option<u8>
-    ensures { TermOf sorts.now.sorts x result }
+pub fn term_of(sorts: &[u8; 96], x: u32) -> Option<u8>
+    ensures { TermOf sorts.now x result }
 {
-    if x < 78 && sorts.sorts[x as usize] != 0 {
+    if x < 78 && sorts[x as usize] != 0 {
         Some(x as u8)
     } else {
         None
@@ -20,8 +19,8 @@ pub fn term_of(sorts: &Sorts, x: u32) -> Option<u8>
 }
 
 // Whether there is a term of this number, and its label holds the variant and another one.
-pub fn splits(state: &State, sorts: &Sorts, x: u32, v: u32) -> bool
-    ensures { result ≡ splits_by sorts.now.sorts state.now x v }
+pub fn splits(state: &State, sorts: &[u8; 96], x: u32, v: u32) -> bool
+    ensures { result ≡ splits_by sorts.now state.now x v }
 {
     let Some(term) = term_of(sorts, x) else {
         return false;

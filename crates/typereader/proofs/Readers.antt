@@ -60,7 +60,7 @@ module _ (bytes : List ℕ) (at many : ℕ) where
   types-begin h = record { ts = []; midway = types-start many bytes at h; columns = types-none }
 
   module _ (t next total : ℕ) (variants first arities sorts : List ℕ) (some : SomeTypes t next total variants first arities sorts) where
-    types-room : total ≤ 48
+    pub types-room : total ≤ 48
     types-room = omega (arith, some.columns.all, some.midway.room)
 
     module _ (n next' : ℕ) (found : Found (type_by many total (drop next bytes)) bytes n next') where

@@ -7,7 +7,7 @@ ghost use Rattle.variantreader.specs.VariantReader.{Stores};
 ghost use Rattle.typereader.specs.TypeReader.{one_type, table_by, type_by};
 
 use guard::Question;
-use numbers::{Read, read_below};
+use numbers::{Read, read_asked};
 use tables::TypeTable;
 use variantreader::read_variants;
 
@@ -33,7 +33,7 @@ fn read_type(
     ensures reads { Reads (type_by many total (drop at bytes.now)) bytes.now result }
     ensures stores { Stores (one_type many total) (drop at bytes.now) total arities.old sorts.old arities.new sorts.new }
 {
-    let n = read_below(bytes, at, room_after(total), Question::TooMany)?;
+    let n = read_asked(bytes, at, room_after(total), Question::TooMany)?;
     let count = n.value as usize;
     let p = read_variants(bytes, n.at, count, many, total, arities, sorts)?;
     Ok(Read {
@@ -47,7 +47,7 @@ pub fn read_types(bytes: &[u8], limit: u32) -> Result<Read<TypeTable>, Question>
     requires { limit ≤ 6 }
     ensures { Reads (table_by limit bytes.now) bytes.now result }
 {
-    let n = read_below(bytes, 0, limit + 1, Question::TooMany)?;
+    let n = read_asked(bytes, 0, limit + 1, Question::TooMany)?;
     let many = n.value as usize;
     let mut variants = [0u8; 6];
     let mut first = [0u8; 6];

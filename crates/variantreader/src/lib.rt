@@ -8,7 +8,7 @@ ghost use Rattle.numbers.specs.Reader.{Reads};
 ghost use Rattle.variantreader.specs.VariantReader.{Stores, sorts_by, store_three, variant_by, variants_by};
 
 use guard::Question;
-use numbers::{Read, read_below};
+use numbers::{Read, read_asked};
 
 // A variant: how many fields it has, and their types, filled up with zeros.
 #[derive(Clone, Copy)]
@@ -25,7 +25,7 @@ fn read_sorts(bytes: &[u8], at: usize, arity: usize, many: u32) -> Result<Read<[
     let mut sorts = [0u8; 3];
     let mut next = at;
     for i in 0..arity {
-        let n = read_below(bytes, next, many, Question::UnknownName)?;
+        let n = read_asked(bytes, next, many, Question::UnknownName)?;
         sorts[i] = n.value as u8;
         next = n.at;
     }
@@ -39,7 +39,7 @@ fn read_variant(bytes: &[u8], at: usize, many: u32) -> Result<Read<Variant>, Que
     requires { many ≤ 6 }
     ensures { Reads (variant_by many (drop at bytes.now)) bytes.now result }
 {
-    let n = read_below(bytes, at, 4, Question::TooMany)?;
+    let n = read_asked(bytes, at, 4, Question::TooMany)?;
     let f = read_sorts(bytes, n.at, n.value as usize, many)?;
     let sorts = f.value;
     Ok(Read {

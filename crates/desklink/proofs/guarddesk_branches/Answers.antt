@@ -8,12 +8,12 @@ use Rattle.branchverdicts.proofs.Corollaries.{few-told}
 use Rattle.desklink.proofs.Codes.{code-judged}
 use Rattle.desklink.proofs.guarddesk_branches.Goals as goal
 
-pub code_of-requires : goal.code_of-requires
-code_of-requires c = let r = c.judge_branches-j.result in
+pub answer_code-requires : goal.answer_code-requires
+answer_code-requires c = let r = c.judge_branches-j.result in
     IfOk-weaker r (λ n. n ≤ 8) (λ n. n ≤ 4294967295) (λ n h. omega (arith, h)) (few-told c.args.procedure.now (length c.args.out.now) r c.judge_branches-j.ensures.value)
 
 pub returns : goal.returns
-returns c = let code = c.code_of in
+returns c = let code = c.answer_code in
     let fits : SFits w64 code.result = record { sfits = code.type_inv } in
     record {
       value = to_z-of_z fits ∙ code.ensures ∙ code-judged _ c.judge_branches-j.result c.judge_branches-j.ensures.value;

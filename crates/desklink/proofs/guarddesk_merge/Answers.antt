@@ -7,11 +7,11 @@ use Rattle.merge.proofs.Corollaries.{few-merged}
 use Rattle.desklink.proofs.Codes.{code-written, few-written}
 use Rattle.desklink.proofs.guarddesk_merge.Goals as goal
 
-pub code_of-requires : goal.code_of-requires
-code_of-requires c = few-written _ (few-merged c.args.first.now c.args.second.now (length c.args.out.now)) c.merge-w.result c.merge-w.ensures.value
+pub answer_code-requires : goal.answer_code-requires
+answer_code-requires c = few-written _ (few-merged c.args.first.now c.args.second.now (length c.args.out.now)) c.merge-w.result c.merge-w.ensures.value
 
 pub returns : goal.returns
-returns c = let code = c.code_of in
+returns c = let code = c.answer_code in
     let fits : SFits w64 code.result = record { sfits = code.type_inv } in
     record {
       value = to_z-of_z fits ∙ code.ensures ∙ code-written _ c.merge-w.result c.merge-w.ensures.value;

@@ -7,11 +7,11 @@ use Rattle.restore.proofs.Corollaries.{few_restored}
 use Rattle.desklink.proofs.Codes.{code-written, few-written}
 use Rattle.desklink.proofs.guarddesk_restore.Goals as goal
 
-pub code_of-requires : goal.code_of-requires
-code_of-requires c = few-written _ (few_restored c.args.stored.now (length c.args.out.now)) c.restore-w.result c.restore-w.ensures.value
+pub answer_code-requires : goal.answer_code-requires
+answer_code-requires c = few-written _ (few_restored c.args.stored.now (length c.args.out.now)) c.restore-w.result c.restore-w.ensures.value
 
 pub returns : goal.returns
-returns c = let code = c.code_of in
+returns c = let code = c.answer_code in
     let fits : SFits w64 code.result = record { sfits = code.type_inv } in
     record {
       value = to_z-of_z fits ∙ code.ensures ∙ code-written _ c.restore-w.result c.restore-w.ensures.value;

@@ -14,6 +14,6 @@ loop-k-preserved c = let l = c.loop-k in
     let a = c.args in
     elim c.if-is_unlike_before.branch [
       | then-is_unlike_before w ↦ let e = unlike_lowest a.constants.now.sorts a.constants.now.values a.state.now.classes l.k l.found l.invariant (sym c.is_unlike_before.ensures ∙ w.if-is_unlike_before.true) w.constant_class.result w.constant_class.ensures.value
-          w.constant_class.ensures.there in grind (arith, common_steps, e, w.found-is, w.min-found.ensures)
+          w.constant_class.ensures.there in grind (arith, common_steps, e, w.found-is)
       | else-is_unlike_before w ↦ w.found-is ∙ unlike-same a.constants.now.sorts a.constants.now.values a.state.now.classes l.k l.found l.invariant (sym c.is_unlike_before.ensures ∙ w.if-is_unlike_before.false)
     ]

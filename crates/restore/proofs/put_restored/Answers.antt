@@ -29,24 +29,24 @@ returns-in_err-put c = let a = c.args in
     let same = rows.same ∙ (typed.puts c.requires.ts (holds c.requires.taken)).same ∙ new.same in
     rw c.from_residual-in_err-put.ensures (search (rules, p, same))
 
-pub returns-in_err-put-2 : goal.returns-in_err-put-2
-returns-in_err-put-2 c = let a = c.args in
+pub returns-in_err-put_bytes : goal.returns-in_err-put_bytes
+returns-in_err-put_bytes c = let a = c.args in
     let new = c.new-writer.ensures in
     let typed = c.in_ok-put_types.ensures in
     let rows = c.in_ok-put.ensures in
-    let rest = c.in_err-put-2.ensures in
-    let p : PutsRestored a.types.now a.rows.now a.rest.now a.out.now None c.put-2.new.self.out.now =
+    let rest = c.in_err-put_bytes.ensures in
+    let p : PutsRestored a.types.now a.rows.now a.rest.now a.out.now None c.put_bytes.new.out.out.now =
     record { puts = λ ts t. full_from_start new.out new.at (and_then (typed.puts ts (holds t)) (and_then rows rest)) } in
     let same = rest.same ∙ rows.same ∙ (typed.puts c.requires.ts (holds c.requires.taken)).same ∙ new.same in
-    rw c.from_residual-in_err-put-2.ensures (search (rules, p, same))
+    rw c.from_residual-in_err-put_bytes.ensures (search (rules, p, same))
 
 pub returns : goal.returns
 returns c = let a = c.args in
     let new = c.new-writer.ensures in
     let typed = c.in_ok-put_types.ensures in
     let rows = c.in_ok-put.ensures in
-    let rest = c.in_ok-put-2.ensures in
-    let w = c.put-2.new.self in
+    let rest = c.in_ok-put_bytes.ensures in
+    let w = c.put_bytes.new.out in
     let p : PutsRestored a.types.now a.rows.now a.rest.now a.out.now (Some w.at) w.out.now =
     record { puts = λ ts t. from_start new.out new.at (and_then (typed.puts ts (holds t)) (and_then rows rest)) } in
     let same = rest.same ∙ rows.same ∙ (typed.puts c.requires.ts (holds c.requires.taken)).same ∙ new.same in
