@@ -4,6 +4,8 @@ use mathlib.Core.Path.{◌≡◌, refl}
 use mathlib.Core.List.{[], ◌∷◌}
 use lib.ListN.{replicate}
 use Rattle.std.specs.Prelude.{Ok, Err}
+use Rattle.guard.specs.Question.{number_of}
+use Rattle.guard.specs.declared.Question.TheVariants.{BranchCount}
 use Rattle.branches.specs.Verdicts.{lists_of}
 use Rattle.writing.specs.Words.{ascii, decimal}
 use Rattle.branchtext.specs.BranchText.{branch_text, line, lists_text, pair_line}
@@ -30,3 +32,7 @@ in_turn = refl
 pub refused_text : branch_text (Err 19) (replicate 36 0) ≡ ascii "REFUSED 19\n"
 unfolding decimal line lists_of lists_text pair_line
 refused_text = refl
+
+-- the same of the question
+pub refused_question : branch_text (Err (number_of BranchCount)) (replicate 36 0) ≡ ascii "REFUSED 19\n"
+refused_question = refused_text

@@ -13,7 +13,7 @@ use Rattle.laws.specs.Bits.{bit}
 use Rattle.laws.proofs.Bools.{by_test}
 use Rattle.laws.proofs.Positions.{least, least_first, least_most, least_passes}
 use Rattle.guard.specs.Types.{fields_of}
-use Rattle.tables.specs.Layout.{types_of}
+use Rattle.tables.specs.Layout.{TypesInRange, types_of}
 use Rattle.tables.specs.declared.TypeTable.{TypeTable}
 use Rattle.tables.proofs.Held.{held-arity, held-variants, place_of}
 use Rattle.std.specs.Option.{unwrap_or}
@@ -97,15 +97,31 @@ variant-entry table label t h =
     (get_or table.variants t 0) (λ v l. ap (λ (n : ℕ). not (eqb (bit label v) 0) && ltb 0 n) (sym (held-arity table t h v l)))
     ∙ ap (lowest (λ v. not (eqb (bit label v) 0) && ltb 0 (length (fields_of (types_of table) t v)))) (sym (held-variants table t h))
 
--- what a search of the variants of a type finds
-module _ (variants first arities : List ℕ) (label t : ℕ) (r : Option ℕ) (found : Finds (held_at arities (get_or first t 0) label) (get_or variants t 0) r) where
-  pub variant_small : get_or variants t 0 ≤ 16 → unwrap_or r (get_or variants t 0) ≤ 16
-  unfolding lowest
-  variant_small few = omega (arith, found_or (held_at arities (get_or first t 0) label) (get_or variants t 0) r found, least_most (held_at arities (get_or first t 0) label) (get_or variants t 0))
+-- the variants of a type have places
+module _ (table : TypeTable) (t v : ℕ) (range : TypesInRange table) (h : v < get_or table.variants t 0) where
+  pub place_fits : get_or table.first t 0 + v < 48
+  place_fits = omega (arith, range.first t, h)
 
-  pub variant_found : unwrap_or r (get_or variants t 0) ≡ variant_entry variants first arities label t
+  pub variant_fits : v < 16
+  variant_fits = omega (arith, range.variants t, h)
+
+-- what a search of the variants of a type finds, by the columns alone
+module _ (variants first arities : List ℕ) (label t : ℕ) (r : Option ℕ) (found : Finds (held_at arities (get_or first t 0) label) (get_or variants t 0) r) where
+  pub entry_small : get_or variants t 0 ≤ 16 → unwrap_or r (get_or variants t 0) ≤ 16
+  unfolding lowest
+  entry_small few = omega (arith, found_or (held_at arities (get_or first t 0) label) (get_or variants t 0) r found, least_most (held_at arities (get_or first t 0) label) (get_or variants t 0))
+
+  pub entry_found : unwrap_or r (get_or variants t 0) ≡ variant_entry variants first arities label t
   unfolding variant_entry
-  variant_found = found_or (held_at arities (get_or first t 0) label) (get_or variants t 0) r found
+  entry_found = found_or (held_at arities (get_or first t 0) label) (get_or variants t 0) r found
+
+-- and by a table
+module _ (table : TypeTable) (label t : ℕ) (h : t < table.many) (r : Option ℕ) (found : Finds (held_at table.arities (get_or table.first t 0) label) (get_or table.variants t 0) r) where
+  pub variant_small : TypesInRange table → unwrap_or r (get_or table.variants t 0) ≤ 16
+  variant_small range = entry_small table.variants table.first table.arities label t r found (range.variants t)
+
+  pub variant_found : unwrap_or r (get_or table.variants t 0) ≡ variant_in (types_of table) label t
+  variant_found = entry_found table.variants table.first table.arities label t r found ∙ variant-entry table label t h
 
 -- ---- fresh numbers
 

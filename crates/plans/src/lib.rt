@@ -73,7 +73,7 @@ fn is_held(arities: &[u8; 48], start: u8, label: u16, v: usize) -> bool
 }
 
 // The lowest variant of type `t` with fields in the label; the number of variants if there is none, as the definition has it.
-#[tactic(auto, using(loops::proofs::Loops::finds, crate::proofs::CodeTests::variant_small, crate::proofs::CodeTests::variant_found))]
+#[tactic(auto, using(loops::proofs::Loops::finds, crate::proofs::CodeTests::entry_small, crate::proofs::CodeTests::entry_found))]
 pub fn variant_in(variants: &[u8; 6], first: &[u8; 6], arities: &[u8; 48], label: u16, t: u8) -> u8
     requires t_bound { t < 6 }
     requires t_bound_2 { get_or variants.now t 0 ≤ 16 }
